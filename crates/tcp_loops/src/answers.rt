@@ -31,20 +31,12 @@ impl<R: Wait + Clock + Copy + Drop, L: Log> Driver<'_, R, L> {
     pub(crate) fn refuse(&mut self, key: usize, fault: EdgeError)
         ensures round { self.new.round ≡ self.old.round }
     {
+        let (base, now) = (self.base, self.round.now);
         if let Some(reason) = Reason::of_edge(fault) {
-            let base = self.base;
             base.shared.counts.lock(base.rt).note_refused(reason);
         }
-        self.respond(key, &None, response_to_fault(fault));
-    }
-
-    /// Answers by this, if by anything, which pages of this origin may read. The connection ends
-    /// then.
-    fn respond(&mut self, key: usize, origin: &Option<String>, response: Option<Response<'_>>)
-        ensures round { self.new.round ≡ self.old.round }
-    {
-        let now = self.round.now;
-        self.connections.respond(key, origin, response, now);
+        self.connections
+            .respond(key, &None, response_to_fault(fault), now);
     }
 
     /// Answers a request, by what was counted where it asks for that, or has it served. It is
@@ -52,13 +44,15 @@ impl<R: Wait + Clock + Copy + Drop, L: Log> Driver<'_, R, L> {
     pub(crate) fn direct(&mut self, key: usize, mut request: Box<Request>) -> Result<(), EdgeError>
         ensures round { self.new.round ≡ self.old.round }
     {
-        let base = self.base;
+        let (base, now) = (self.base, self.round.now);
         let target = direct(base.alloc, &base.rules.origins, &mut request)?;
         base.shared.counts.lock(base.rt).note_request(self.number);
         if matches!(target, Target::NotFound) && base.rules.asks_for_counts(&request) {
             let text = base.shared.counts.lock(base.rt).text(base.alloc)?;
             let (status, body) = (Status::Success, text.as_str());
-            self.respond(key, &request.origin, Some(Response { status, body }));
+            let response = Some(Response { status, body });
+            self.connections
+                .respond(key, &request.origin, response, now);
             return Ok(());
         }
         let has_none = |_: &Reason| base.rules.file_for(&request).is_none();
@@ -73,10 +67,12 @@ impl<R: Wait + Clock + Copy + Drop, L: Log> Driver<'_, R, L> {
     fn assign(&mut self, key: usize, request: Box<Request>, target: Target)
         ensures round { self.new.round ≡ self.old.round }
     {
-        let base = self.base;
+        let (base, watch, now) = (self.base, self.watch, self.round.now);
         let owner = owner_of(target, base.rules.loops, self.number);
         if owner == self.number {
-            return self.serve(key, request, target);
+            return self
+                .connections
+                .serve(key, request, target, watch, base.rules, now);
         }
         let Some(mut taken) = self.connections.take(key) else {
             return;
@@ -99,16 +95,6 @@ impl<R: Wait + Clock + Copy + Drop, L: Log> Driver<'_, R, L> {
         base.shared.note_closed(base.rt, from);
     }
 
-    /// Begins to serve a request. A GET of a client that was told just so that nothing waits is
-    /// served a little later.
-    pub(crate) fn serve(&mut self, key: usize, request: Box<Request>, target: Target)
-        ensures round { self.new.round ≡ self.old.round }
-    {
-        let (watch, rules, now) = (self.watch, self.base.rules, self.round.now);
-        self.connections
-            .serve(key, request, target, watch, rules, now);
-    }
-
     /// Heeds what the core's state showed after the last events.
     pub(crate) fn heed(&mut self) {
         self.round.now = self.watch.now();
@@ -118,38 +104,38 @@ impl<R: Wait + Clock + Copy + Drop, L: Log> Driver<'_, R, L> {
         note_signs(self.shown.signs.as_slice(), pressure);
     }
 
-    /// An event was answered that is of this.
+    /// An event was answered that is of this. By one of a connection its client may have come over
+    /// to it.
     pub(crate) fn settle(&mut self, of: Origin, got: &Answered)
-        ensures stints { self.new.round.stints ≡ self.old.round.stints }
+        ensures round { self.new.round ≡ record self.old.round {
+          tells = self.new.round.tells;
+          taken = self.new.round.taken;
+          gives_up = self.new.round.gives_up;
+        } }
     {
-        match of {
-            Origin::Loss { client } => self.hear_loss(client, got),
-            Origin::Stint { key, comes_over } => self.hear(key, comes_over, got),
-        }
-    }
-
-    /// A connection's event was answered. By it its client may have come over to it.
-    fn hear(&mut self, key: usize, comes_over: bool, got: &Answered)
-        ensures round { self.new.round ≡ record self.old.round
-            { tells = self.new.round.tells; taken = self.new.round.taken } }
-    {
+        let (key, comes_over) = match of {
+            Origin::Loss { client } => return self.hear_loss(client, got),
+            Origin::Stint { key, comes_over } => (key, comes_over),
+        };
         let (base, now) = (self.base, self.round.now);
-        if !self.connections.has(key) {
+        if !self.connections.slots.contains(key) {
             return;
         }
         let client = self.connections.links.link(key).client;
         let rests = client.is_some_and(|client| self.shown.rests(client));
         let before = self.connections.seen(key).unsent;
         let what = self.connections.hear(key, got, rests, now);
-        let unsent = self.connections.seen(key).unsent;
-        self.round = self.round.note_taken(got, unsent.saturating_sub(before));
+        let seen = self.connections.seen(key);
+        self.round = self
+            .round
+            .note_taken(got, seen.unsent.saturating_sub(before));
         if let (Err(error), false) = (got, matches!(what, Do::Rest(_))) {
             let reason = Reason::of_core(error.fault);
             base.shared.counts.lock(base.rt).note_refused(reason);
         }
         self.note(key, comes_over, got);
         let is_done = matches!(got, Ok(Outcome::Done(_)));
-        self.round.tells |= is_done && self.connections.has_brought_all(key);
+        self.round.tells |= is_done && seen.has_brought_all();
         self.obey(key, what);
     }
 

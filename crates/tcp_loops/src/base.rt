@@ -1,9 +1,11 @@
 //! What all workers go by, and how they tell the time.
 
-ghost use Rattle.std.specs.Prelude.{◌≡◌, ◌≢◌, ℕ, false, nat_eq};
+ghost use Rattle.std.specs.Prelude.{◌≡◌, ◌≢◌, ℕ, IfNone, false, nat_eq, slice_get};
+ghost use Rattle.std.specs.Arc.{arc_value};
 ghost use Rattle.std.specs.HashMap.{get};
 ghost use Rattle.tcp_loops.specs.Fates as fates;
 ghost use Rattle.tcp_loops.specs.Watch.{told_last};
+ghost use Rattle.tcp_streams.specs.Shown.{ShowsNothing};
 
 use events::Answered;
 use loop_rules::{Concern, Notes};
@@ -132,10 +134,17 @@ impl<R: Wait, L: Log> Base<'_, R, L> {
         }
     }
 
-    /// Takes what the last events of a worker showed. Where a backend is pressed no more, each loop
-    /// looks at all of its connections.
-    pub fn take_shown(&self, worker: usize, shown: &mut Shown) {
-        self.shared.showing.take(self.rt, worker, shown);
+    /// Takes what the last events of a worker showed, and leaves this in its place, of which all
+    /// was heeded. To one that has no place nothing was shown. Where a backend is pressed no more,
+    /// each loop looks at all of its connections.
+    pub fn take_shown(&self, worker: usize, shown: &mut Shown)
+        ensures { IfNone (slice_get (arc_value self.now.shared.now).showing.items worker)
+            (ShowsNothing shown.new) }
+    {
+        shown.clear();
+        if let Some(place) = self.shared.showing.get(worker) {
+            mem::swap(&mut *place.lock(self.rt), shown);
+        }
         if shown.relieved {
             self.shared.wake_everyone(self.rt);
         }

@@ -40,7 +40,7 @@ impl<R: Drop> Drop for Connection<'_, R> {
 /// The connections of a loop, each at its key, where `links` has what it is about.
 pub struct Connections<'a, R> {
     alloc: Global,
-    slots: Slab<Box<Connection<'a, R>>>,
+    pub slots: Slab<Box<Connection<'a, R>>>,
     pub links: Links,
 }
 
@@ -63,13 +63,6 @@ impl<'a, R: Clock + Drop> Connections<'a, R> {
             slots,
             links,
         }
-    }
-
-    /// How many there are.
-    pub fn len(&self) -> usize
-        ensures { result ≡ all.count_of self.now }
-    {
-        self.slots.len()
     }
 
     /// A bound of all keys.
@@ -103,13 +96,6 @@ impl<'a, R: Clock + Drop> Connections<'a, R> {
         self.slots.insert(connection).ok()
     }
 
-    /// Whether there is a connection with this key.
-    pub fn has(&self, key: usize) -> bool
-        ensures { result ≡ is_there key self.now }
-    {
-        self.slots.get(key).is_some()
-    }
-
     /// What is seen of the connection with this key.
     pub fn seen(&self, key: usize) -> Seen
         ensures { result ≡ all.seen_at key self.now }
@@ -118,14 +104,6 @@ impl<'a, R: Clock + Drop> Connections<'a, R> {
             Some(connection) => connection.service.seen(),
             None => Seen::gone(),
         }
-    }
-
-    /// Whether a connection brought all that it read, and its stream has no more, as far as is
-    /// known.
-    pub fn has_brought_all(&self, key: usize) -> bool
-        ensures { result ≡ one.has_brought_all (all.seen_at key self.now) }
-    {
-        self.seen(key).has_brought_all()
     }
 
     /// Takes a connection out.
@@ -212,19 +190,35 @@ impl<'a, R: Clock + Drop> Connections<'a, R> {
         came
     }
 
-    /// Does what its link says.
+    /// Does what its link says. It closes where its peer has no event any more.
     fn act(&mut self, key: usize, what: Do, now: u64) -> Came
         ensures came { is_there key self.old ≡ true → ComesOf what now result }
         ensures others { OnlyAt key self.old self.new }
         ensures takers { self.new.links.roster.takers ≡ self.old.links.roster.takers }
     {
-        let alloc = self.alloc;
+        let (alloc, is_post) = (self.alloc, self.links.link(key).course.is_post());
         let Some(connection) = self.slots.get_mut(key) else {
             return Came::Nothing(Do::Rest(Pause::Done));
         };
         match what {
             Do::Gather => connection.service.read(alloc),
-            Do::Bring { drains, reads } => self.bring(key, drains, reads, now),
+            Do::Bring { drains, reads } => {
+                if drains && connection.service.drain().is_none() {
+                    return Came::Nothing(self.links.finish(key, true, now));
+                }
+                match connection.service.next(reads) {
+                    Ok(Some((event, moment))) => {
+                        let message = message_length(&event);
+                        connection
+                            .service
+                            .change(Change::Brought { message, is_post });
+                        self.links.note_brought(key, &event, moment);
+                        Came::Event(event, moment)
+                    }
+                    Ok(None) => Came::Nothing(self.links.finish(key, false, now)),
+                    Err(_) => Came::Nothing(self.links.finish(key, true, now)),
+                }
+            }
             Do::Pass => {
                 connection.service.skip_rest();
                 let seen = connection.service.seen();
@@ -234,32 +228,6 @@ impl<'a, R: Clock + Drop> Connections<'a, R> {
             Do::Tell(loss) => Came::Event(loss.event(), now),
             Do::Drain => Came::Nothing(connection.service.drain().map_or(Do::End, Do::Rest)),
             other => Came::Nothing(other),
-        }
-    }
-
-    /// The next event of a connection's peer. It closes where there is none any more.
-    fn bring(&mut self, key: usize, drains: bool, reads: bool, now: u64) -> Came
-        ensures came { ComesOf (Do.Bring drains reads) now result }
-        ensures others { OnlyAt key self.old self.new }
-        ensures roster { self.new.links.roster ≡ self.old.links.roster }
-    {
-        let is_post = self.links.link(key).course.is_post();
-        let Some(connection) = self.slots.get_mut(key) else {
-            return Came::Nothing(Do::Rest(Pause::Done));
-        };
-        if drains && connection.service.drain().is_none() {
-            return Came::Nothing(self.links.finish(key, true, now));
-        }
-        match connection.service.next(reads) {
-            Ok(Some((event, moment))) => {
-                let message = message_length(&event);
-                let change = Change::Brought { message, is_post };
-                connection.service.change(change);
-                self.links.note_brought(key, &event, moment);
-                Came::Event(event, moment)
-            }
-            Ok(None) => Came::Nothing(self.links.finish(key, false, now)),
-            Err(_) => Came::Nothing(self.links.finish(key, true, now)),
         }
     }
 
@@ -291,27 +259,21 @@ impl<'a, R: Clock + Drop> Connections<'a, R> {
         ensures takers { self.new.links.roster.takers ≡ self.old.links.roster.takers }
         ensures unready { is_readable event.now ≡ false → is_writable event.now ≡ false
             → self.new ≡ self.old }
+        ensures looks { let looks = self.new.links.roster.rota.looks in
+            is_readable event.now ≡ true → (event_token event.now).0 < length looks
+            → will_look (look_of looks (event_token event.now).0) ≡ true }
     {
         let Token(key) = event.token();
-        if event.is_readable() {
-            self.note_readable(key, event.is_read_closed());
-        }
         if event.is_writable() {
             self.links.note_unsent(key);
         }
-    }
-
-    /// A stream was reported readable, and maybe that its other side has sent its last byte.
-    fn note_readable(&mut self, key: usize, ended: bool)
-        ensures looks { let looks = self.new.links.roster.rota.looks in
-            key < length self.old.links.roster.rota.looks → will_look (look_of looks key) ≡ true }
-        ensures others { OnlyAt key self.old self.new }
-        ensures takers { self.new.links.roster.takers ≡ self.old.links.roster.takers }
-    {
-        if let Some(connection) = self.slots.get_mut(key) {
-            connection.service.change(Change::Readable { ended });
+        if event.is_readable() {
+            if let Some(connection) = self.slots.get_mut(key) {
+                let ended = event.is_read_closed();
+                connection.service.change(Change::Readable { ended });
+            }
+            self.links.roster.rota.call(key);
         }
-        self.links.roster.rota.call(key);
     }
 
     /// Sends what a connection has to send. Answers whether it is over then.
@@ -370,17 +332,12 @@ impl<'a, R: Clock + Drop> Connections<'a, R> {
             return false;
         };
         match what {
-            Do::End => true,
-            Do::Shut => !connection.service.shut(),
-            Do::Cut => {
-                connection.service.change(Change::Cut);
-                false
-            }
-            Do::GiveUp => {
-                connection.service.give_up();
-                false
-            }
-            _ => false,
+            Do::End => return true,
+            Do::Shut => return !connection.service.shut(),
+            Do::Cut => connection.service.change(Change::Cut),
+            Do::GiveUp => connection.service.give_up(),
+            _ => {}
         }
+        false
     }
 }

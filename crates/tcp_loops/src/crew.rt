@@ -18,25 +18,27 @@ use std::thread::{JoinHandle, Threads};
 use tcp_streams::{Acceptor, Ears, Log, ServerFault};
 
 /// What a thread of the pool serves.
-pub enum Worker<'a, R, L, K> {
+pub enum Worker<'a, R, L, K, W> {
     Serves(EventLoop<'a, R, L>),
     Keeps(K),
+    Wards(W),
 }
 
 /// Written out, so that a crate above takes the drop of all that lies in it by this one call.
-impl<R: Drop, L, K: Drop> Drop for Worker<'_, R, L, K> {
+impl<R: Drop, L, K: Drop, W: Drop> Drop for Worker<'_, R, L, K, W> {
     fn drop(self) {
         match self {
-            Worker::Serves(_) | Worker::Keeps(_) => {}
+            Worker::Serves(_) | Worker::Keeps(_) | Worker::Wards(_) => {}
         }
     }
 }
 
-impl<R: Wait + Clock + Copy + Drop, L: Log, K: Peer> Peer for Worker<'_, R, L, K> {
+impl<R: Wait + Clock + Copy + Drop, L: Log, K: Peer, W: Peer> Peer for Worker<'_, R, L, K, W> {
     fn next(&mut self) -> Result<Option<(Event, u64)>, PeerFault> {
         match self {
             Worker::Serves(own) => Ok(own.next()),
             Worker::Keeps(keeper) => keeper.next(),
+            Worker::Wards(warden) => warden.next(),
         }
     }
 
@@ -47,6 +49,7 @@ impl<R: Wait + Clock + Copy + Drop, L: Log, K: Peer> Peer for Worker<'_, R, L, K
                 Ok(())
             }
             Worker::Keeps(keeper) => keeper.answer(got),
+            Worker::Wards(warden) => warden.answer(got),
         }
     }
 
@@ -57,23 +60,24 @@ impl<R: Wait + Clock + Copy + Drop, L: Log, K: Peer> Peer for Worker<'_, R, L, K
                 Ok(())
             }
             Worker::Keeps(keeper) => keeper.answer(&got),
+            Worker::Wards(warden) => warden.answer(&got),
         }
     }
 
     fn has_next(&self) -> bool {
         match self {
             Worker::Serves(own) => own.has_next(),
-            Worker::Keeps(_) => false,
+            _ => false,
         }
     }
 }
 
 /// The loops, each with its ears, and the keeper as the last worker.
-pub fn workers_for<'a, R: Wait + Clock + Copy + Drop, L: Log, K: Drop>(
+pub fn workers_for<'a, R: Wait + Clock + Copy + Drop, L: Log, K: Drop, W: Drop>(
     base: &'a Base<'a, R, L>,
     ears: Vec<Ears>,
     keeper: K,
-) -> Result<Vec<Worker<'a, R, L, K>>, AllocError>
+) -> Result<Vec<Worker<'a, R, L, K, W>>, AllocError>
     ensures { IfOk result (λ workers. vec_len workers ≡ vec_len ears + 1) }
 {
     let mut workers = Vec::new(base.alloc);

@@ -24,7 +24,7 @@ use std::mem;
 use std::rt::Clock;
 use std::sync::Wait;
 use std::time::Duration;
-use tcp_streams::{Accepted, Buffered, Ears, Handed, Inbox, Log, Rules, Shown, Stream};
+use tcp_streams::{Accepted, Buffered, Ears, Handed, Inbox, Log, Shown, Stream};
 
 /// How many reports of streams one wait takes.
 const EVENTS: usize = 256;
@@ -64,14 +64,6 @@ pub(crate) struct Driver<'a, R, L> {
     pub(crate) shown: Shown,
 }
 
-/// No connections yet, of a loop that goes by these rules.
-fn links_for(alloc: Global, rules: &Rules) -> Links
-    ensures none { result.links.items ≡ [] }
-    ensures share { result.receiving.share ≡ rules.now.receiving / rules.now.loops }
-{
-    Links::new(alloc, rules.share(), rules.stretch(), rules.pace)
-}
-
 /// Streams are ready, as the last wait has told.
 fn note_ready<R: Clock + Drop>(events: &Events<Global>, connections: &mut Connections<'_, R>) {
     for event in events.iter() {
@@ -90,22 +82,22 @@ impl<'a, R: Wait + Clock + Copy + Drop, L: Log> Driver<'a, R, L> {
         ensures number { IfOk result (λ driver. driver.number ≡ number) }
         ensures round { IfOk result (λ driver. driver.round ≡ rounds.first) }
         ensures nobody { IfOk result (λ driver. driver.active.items ≡ []) }
+        ensures share { IfOk result (λ driver. driver.connections.links.receiving.share
+            ≡ base.now.rules.now.share) }
     {
-        let alloc = base.alloc;
-        let events = Events::with_capacity(alloc, EVENTS)?;
-        let notes = Notes::new(alloc, base.rules.loops)?;
-        let active = VecDeque::with_capacity(alloc, most)?;
+        let (alloc, rules) = (base.alloc, base.rules);
+        let links = Links::new(alloc, rules.share, rules.stretch, rules.pace);
         Ok(Driver {
             base,
             number,
             watch: base.watch,
             round: Round::first(),
             ears,
-            events,
-            connections: Connections::new(alloc, links_for(alloc, base.rules)),
+            events: Events::with_capacity(alloc, EVENTS)?,
+            connections: Connections::new(alloc, links),
             mail: Mail::new(alloc),
-            notes,
-            active,
+            notes: Notes::new(alloc, rules.loops)?,
+            active: VecDeque::with_capacity(alloc, most)?,
             shown: Shown::new(alloc),
         })
     }
@@ -161,7 +153,8 @@ impl<'a, R: Wait + Clock + Copy + Drop, L: Log> Driver<'a, R, L> {
         }
         self.connections.links.roster.rota.begin_round();
         self.send_all();
-        if self.connections.len() == 0 && self.base.shared.standing.lock(self.base.rt).is_over() {
+        let is_empty = self.connections.slots.is_empty();
+        if is_empty && self.base.shared.standing.lock(self.base.rt).is_over() {
             return false;
         }
         self.round = self.round.next();
@@ -172,7 +165,13 @@ impl<'a, R: Wait + Clock + Copy + Drop, L: Log> Driver<'a, R, L> {
         }
         self.round.now = self.watch.now();
         note_ready(&self.events, &mut self.connections);
-        self.take_in();
+        if let Some(inbox) = self.base.shared.inboxes.get(self.number) {
+            inbox.mailbox.lock(self.base.rt).take(&mut self.mail);
+        }
+        self.add_streams();
+        self.take_over();
+        let everyone = self.wake();
+        self.do_due(everyone);
         true
     }
 
@@ -209,33 +208,16 @@ impl<'a, R: Wait + Clock + Copy + Drop, L: Log> Driver<'a, R, L> {
             return 0;
         }
         let inbox = self.base.shared.inboxes.get(self.number);
-        let sleeps = |inbox: &Inbox| inbox.falls_asleep(self.base.rt);
+        let sleeps = |inbox: &Inbox| {
+            let mut mailbox = inbox.mailbox.lock(self.base.rt);
+            mailbox.fall_asleep(inbox.streams.is_empty())
+        };
         if !inbox.is_none_or(sleeps) {
             return 0;
         }
         self.round.now = self.watch.now();
         let due = self.connections.links.first_due(self.round.beat);
         self.round.sleep(due)
-    }
-
-    /// Takes in what was handed in, and does what is due.
-    fn take_in(&mut self)
-        ensures stints { self.new.round.stints ≡ self.old.round.stints }
-    {
-        self.take_mail();
-        self.add_streams();
-        self.take_over();
-        let everyone = self.wake();
-        self.do_due(everyone);
-    }
-
-    /// Takes what was handed in.
-    fn take_mail(&mut self)
-        ensures round { self.new.round ≡ self.old.round }
-    {
-        if let Some(inbox) = self.base.shared.inboxes.get(self.number) {
-            inbox.mailbox.lock(self.base.rt).take(&mut self.mail);
-        }
     }
 
     /// Has those look that others woke. Answers whether these are all. So it is where a backend is
@@ -249,12 +231,11 @@ impl<'a, R: Wait + Clock + Copy + Drop, L: Log> Driver<'a, R, L> {
         let woken = self.mail.woken.as_slice();
         self.connections.links.wake_all(woken);
         self.mail.woken.clear();
-        if !everyone {
-            return false;
+        if everyone {
+            self.press(Some(0));
+            self.connections.links.roster.rota.call_all();
         }
-        self.press(Some(0));
-        self.connections.links.roster.rota.call_all();
-        true
+        everyone
     }
 
     /// The backends of these digits are pressed now, if that was shown.
@@ -296,7 +277,7 @@ impl<'a, R: Wait + Clock + Copy + Drop, L: Log> Driver<'a, R, L> {
         let forgets_digits = self.round.forgets_digits();
         self.round = self.round.after_beat();
         if forgets_digits {
-            self.connections.links.pressure = Pressure::new(base.alloc, base.rules.stretch());
+            self.connections.links.pressure = Pressure::new(base.alloc, base.rules.stretch);
         }
     }
 
@@ -338,7 +319,9 @@ impl<'a, R: Wait + Clock + Copy + Drop, L: Log> Driver<'a, R, L> {
                 break;
             };
             if let Some(key) = self.add(Some(handed.stream), handed.from) {
-                self.serve(key, handed.request, handed.target);
+                let (watch, rules, now) = (self.watch, self.base.rules, self.round.now);
+                self.connections
+                    .serve(key, handed.request, handed.target, watch, rules, now);
                 self.connections.links.roster.rota.call(key);
             }
         }
@@ -389,31 +372,17 @@ impl<'a, R: Wait + Clock + Copy + Drop, L: Log> Driver<'a, R, L> {
     {
         match what {
             Do::GoOn => {
-                if self.active.push_back(key).is_err() {
-                    self.rest(key, Pause::More);
+                if self.active.push_back(key).is_ok() {
+                    return;
                 }
+                self.connections.links.rest(key, Pause::More);
             }
-            Do::Rest(pause) => self.rest(key, pause),
-            Do::Send => self.send_soon(key),
-            Do::End => self.close(key),
-            _ => {}
+            Do::Rest(pause) => self.connections.links.rest(key, pause),
+            Do::Send => {}
+            Do::End => return self.close(key),
+            _ => return,
         }
-    }
-
-    /// The stint of a connection is over, and what it has to send goes out.
-    fn rest(&mut self, key: usize, pause: Pause)
-        ensures round { self.new.round ≡ self.old.round }
-        ensures active { self.new.active ≡ self.old.active }
-    {
-        self.connections.links.rest(key, pause);
-        self.send_soon(key);
-    }
-
-    /// What a connection has to send goes out at the end of the round, or at once where it is much.
-    fn send_soon(&mut self, key: usize)
-        ensures round { self.new.round ≡ self.old.round }
-        ensures active { self.new.active ≡ self.old.active }
-    {
+        // What it has to send goes out at the end of the round, or at once where it is much.
         if is_much_unsent(self.connections.seen(key).unsent) {
             self.send(key);
         } else {

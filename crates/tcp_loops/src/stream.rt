@@ -1,6 +1,6 @@
 //! What a loop does with streams: it reads requests, and sends the rest of a file.
 
-ghost use Rattle.std.specs.Prelude.{◌≡◌, ◌++◌, OnErr, string_bytes};
+ghost use Rattle.std.specs.Prelude.{◌≡◌, ◌++◌};
 ghost use Rattle.std.specs.Box.{box_value};
 ghost use Rattle.tcp_streams.specs.Outputs.{waiting};
 ghost use Rattle.tcp_loops.specs.Comes.{Reads};

@@ -13,19 +13,16 @@ use hub_state::State;
 use std::alloc::{AllocError, Global};
 use std::sync::ledger::Ledger;
 use std::sync::{Mutex, Wait};
-use tcp_streams::{Backends, Shared, Shown, Sign};
+use tcp_loops::Base;
+use tcp_streams::{Backends, Shown, Sign};
 
 /// A gate at which nobody waits. Under the lock it looks whether something waits for who sent a
 /// message, and at what an event put for backends, where there may be some.
 #[derive(Drop)]
-pub(crate) struct Gate<'a, R> {
-    pub(crate) rt: &'a R,
-    pub(crate) alloc: Global,
-    pub(crate) shared: &'a Shared,
+pub(crate) struct Gate<'a, R, L> {
+    pub(crate) base: &'a Base<'a, R, L>,
     /// The backends that are pressed. It is taken under the core's lock.
     pub(crate) pressed: Mutex<Vec<Pressed>>,
-    /// A client in `/expiry` is the warden.
-    pub(crate) has_warden: bool,
 }
 
 /// Whether the event was a message over a WebSocket, whose client goes on.
@@ -47,17 +44,19 @@ fn looked_at(has_backends: bool, event: &Event, got: &Answered) -> Option<u128>
     }
 }
 
-/// Whether nothing waits for the client of a message that was served.
-fn rests(state: &State, client: u128, event: &Event, got: &Answered) -> bool
-    ensures { result ≡ gates.rests state.now client event.now got.now }
+/// What is shown of a client after its event, which brought messages of these digits, or none, if
+/// something is: that, and whether nothing waits for the client of a message that was served.
+fn sign_of(
+    state: &State,
+    client: u128,
+    event: &Event,
+    got: &Answered,
+    digits: Option<u16>,
+) -> Option<Sign>
+    ensures { result ≡ gates.sign_of client (gates.rests state.now client event.now got.now)
+        digits }
 {
-    is_served(event, got) && state.waiting(client) == Some(0)
-}
-
-/// What is shown of a client after its event, if something is.
-fn sign_of(client: u128, rests: bool, digits: Option<u16>) -> Option<Sign>
-    ensures { result ≡ gates.sign_of client rests digits }
-{
+    let rests = is_served(event, got) && state.waiting(client) == Some(0);
     (rests || digits.is_some()).then(|| Sign {
         client,
         rests,
@@ -101,7 +100,7 @@ fn watch(
 }
 
 /// How many broadcasts of a client's event went to no backend. What the warden is told of those
-/// that it ends itself isn't for backends.
+/// that it ends itself isn't for backends: a client in `/expiry` is the warden.
 fn unheard(sight: &Sight, client: u128, got: &Answered, has_warden: bool) -> u64
     ensures { result ≡ gates.unheard sight.now.state.now sight.now.space.now client
         got.now has_warden }
@@ -112,25 +111,27 @@ fn unheard(sight: &Sight, client: u128, got: &Answered, has_warden: bool) -> u64
     sight.unheard(client, got)
 }
 
-impl<R: Wait> Gate<'_, R> {
+impl<R: Wait, L> Gate<'_, R, L> {
     /// Shows what an event of a client showed, of backends, if there may be some, and of itself.
     fn show(&self, state: &State, client: u128, event: &Event, got: &Answered, shown: &mut Shown) {
-        let mut digits = None;
-        if let Some(backends) = &self.shared.backends {
-            let sight = sight_of(self.alloc, backends, state);
-            let mut pressed = self.pressed.lock(self.rt);
+        let (base, mut digits) = (self.base, None);
+        if let Some(backends) = &base.shared.backends {
+            let sight = sight_of(base.alloc, backends, state);
+            let mut pressed = self.pressed.lock(base.rt);
             // Where one isn't listed for want of memory, its clients are read on.
             let _ = watch(&sight, client, got, &mut *pressed, shown);
-            backends.note_unheard(self.rt, unheard(&sight, client, got, self.has_warden));
+            let has_warden = base.rules.warding.is_some();
+            backends.note_unheard(base.rt, unheard(&sight, client, got, has_warden));
             digits = sight.digits_brought(client, event);
         }
-        if let Some(sign) = sign_of(client, rests(state, client, event, got), digits) {
-            shown.add(sign);
+        if let Some(sign) = sign_of(state, client, event, got, digits) {
+            // Where there is no memory for it, it is as if nothing had been shown.
+            let _ = shown.signs.push(sign);
         }
     }
 }
 
-impl<R: Wait> Turnstile for Gate<'_, R> {
+impl<R: Wait, L> Turnstile for Gate<'_, R, L> {
     fn before(&self, _worker: usize, _turn: u64) {}
 
     fn applied<C: Ledger, T: Ledger>(
@@ -140,17 +141,18 @@ impl<R: Wait> Turnstile for Gate<'_, R> {
         event: &Event,
         got: &Answered,
     ) {
-        let Some(client) = looked_at(self.shared.backends.is_some(), event, got) else {
+        let base = self.base;
+        let Some(client) = looked_at(base.shared.backends.is_some(), event, got) else {
             return;
         };
         let state = core.hub().state();
-        match self.shared.showing.of(worker) {
+        match base.shared.showing.get(worker) {
             Some(place) => {
-                let mut shown = place.lock(self.rt);
+                let mut shown = place.lock(base.rt);
                 self.show(state, client, event, got, &mut *shown);
             }
             // It isn't shown to the warden.
-            None => self.show(state, client, event, got, &mut Shown::new(self.alloc)),
+            None => self.show(state, client, event, got, &mut Shown::new(base.alloc)),
         }
     }
 

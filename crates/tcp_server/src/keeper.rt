@@ -47,17 +47,6 @@ struct Round {
 }
 
 impl Round {
-    /// A round that is over, of nobody.
-    fn nobody(alloc: Global) -> Round
-        ensures clients { result.clients.items ≡ [] }
-        ensures over { keeping.is_over result ≡ true }
-    {
-        Round {
-            clients: Vec::new(alloc),
-            asked: 1,
-        }
-    }
-
     /// A round of these clients that begins.
     fn of(clients: Vec<u128>) -> Round
         ensures { result ≡ record { clients = clients; asked = 0 } }
@@ -160,45 +149,36 @@ fn more_to_tell(sum: u64, told: u64, now: u64, from: u64) -> Option<u64>
 }
 
 impl Remarks {
-    /// Whether the totals are to be told, where they are every so many seconds.
-    fn reports(self, every: Option<u64>, now: u64) -> bool
-        ensures { result ≡ remarks.reports every now self }
+    /// What the log is to be told now, and is taken for told from then on: how many more events of
+    /// clients went to no backend, and how many more connections were refused.
+    fn remark(&mut self, sums: Sums, now: u64) -> (Option<u64>, Option<u64>)
+        ensures unheard { result.0 ≡ remarks.more_unheard sums now self.old }
+        ensures crowded { result.1 ≡ remarks.more_crowded sums now self.old }
+        ensures after { self.new ≡ remarks.after_remark sums now self.old }
     {
-        every.is_some() && now >= self.report
+        let (told, from) = (self.told, self.remark);
+        if now >= from && (sums.unheard > told.unheard || sums.crowded > told.crowded) {
+            self.remark = now.saturating_add(MINUTE);
+            self.told.unheard = sums.unheard.max(told.unheard);
+            self.told.crowded = sums.crowded.max(told.crowded);
+        }
+        let unheard = more_to_tell(sums.unheard, told.unheard, now, from);
+        (unheard, more_to_tell(sums.crowded, told.crowded, now, from))
     }
 
-    /// How many more events of clients went to no backend, where that is to be told.
-    fn more_unheard(self, sums: Sums, now: u64) -> Option<u64>
-        ensures { result ≡ remarks.more_unheard sums now self }
+    /// Whether the log is to be told the totals now, where it is every so many seconds: they are
+    /// taken for told then.
+    fn report(&mut self, every: Option<u64>, now: u64) -> bool
+        ensures reports { result ≡ remarks.reports every now self.old }
+        ensures after { self.new ≡ remarks.after_report every now self.old }
     {
-        more_to_tell(sums.unheard, self.told.unheard, now, self.remark)
-    }
-
-    /// How many more connections were refused, where that is to be told.
-    fn more_crowded(self, sums: Sums, now: u64) -> Option<u64>
-        ensures { result ≡ remarks.more_crowded sums now self }
-    {
-        more_to_tell(sums.crowded, self.told.crowded, now, self.remark)
-    }
-
-    /// What the log was told once it is told all of that.
-    fn after(self, every: Option<u64>, sums: Sums, now: u64) -> Remarks
-        ensures { result ≡ remarks.after_remark sums now (remarks.after_report every now self) }
-    {
-        let (told, mut next) = (self.told, self);
         match every {
             Some(pause) if now >= self.report => {
-                next.report = now.saturating_add(pause.saturating_mul(1_000));
+                self.report = now.saturating_add(pause.saturating_mul(1_000));
+                true
             }
-            _ => {}
+            _ => false,
         }
-        let has_more = sums.unheard > told.unheard || sums.crowded > told.crowded;
-        if has_more && now >= self.remark {
-            next.remark = now.saturating_add(MINUTE);
-            next.told.unheard = sums.unheard.max(told.unheard);
-            next.told.crowded = sums.crowded.max(told.crowded);
-        }
-        next
     }
 }
 
@@ -266,7 +246,11 @@ impl<'a, 'c, R: Wait + Clock + Copy, L: Log, C: Ledger, T: Ledger> Keeper<'a, 'c
             locked,
             pass,
             begun: false,
-            round: Round::nobody(base.alloc),
+            // One that is over, of nobody.
+            round: Round {
+                clients: Vec::new(base.alloc),
+                asked: 1,
+            },
             notes: Notes::new(base.alloc, base.rules.loops)?,
             shown: Shown::new(base.alloc),
             remarks: Remarks::default(),
@@ -296,18 +280,18 @@ impl<'a, 'c, R: Wait + Clock + Copy, L: Log, C: Ledger, T: Ledger> Keeper<'a, 'c
     /// Tells the core's counts where somebody may ask for them, and the log what it is to be told.
     fn tell(&mut self) {
         let (base, now, sums) = (self.base, self.watch.now(), self.sums());
-        if self.remarks.reports(base.rules.report, now) {
+        if self.remarks.report(base.rules.report, now) {
             base.log.tell(News::Totals(self.count(sums.unheard)));
         } else if base.rules.metrics.is_some() {
             let _ = self.count(sums.unheard);
         }
-        if let Some(count) = self.remarks.more_unheard(sums, now) {
+        let (unheard, crowded) = self.remarks.remark(sums, now);
+        if let Some(count) = unheard {
             base.log.tell(News::Unheard(count));
         }
-        if let Some(count) = self.remarks.more_crowded(sums, now) {
+        if let Some(count) = crowded {
             base.log.tell(News::Crowded(count));
         }
-        self.remarks = self.remarks.after(base.rules.report, sums, now);
     }
 
     /// Waits for the next round, and answers whether all loops have ended. Where the journal is
@@ -360,36 +344,5 @@ impl<R: Wait + Clock + Copy, L: Log, C: Ledger, T: Ledger> Peer for Keeper<'_, '
             note_lists(&mut self.notes, done.clients.lists(), loops);
         }
         Ok(())
-    }
-}
-
-/// Who works beside the loops: who keeps time, or who ends the sockets of tokens that have expired.
-pub(crate) enum Aide<K, W> {
-    Keeper(K),
-    Warden(W),
-}
-
-/// Written out, so that a crate above takes the drop of all that lies in it by this one call.
-impl<K: Drop, W: Drop> Drop for Aide<K, W> {
-    fn drop(self) {
-        match self {
-            Aide::Keeper(_) | Aide::Warden(_) => {}
-        }
-    }
-}
-
-impl<K: Peer, W: Peer> Peer for Aide<K, W> {
-    fn next(&mut self) -> Result<Option<(Event, u64)>, PeerFault> {
-        match self {
-            Aide::Keeper(keeper) => keeper.next(),
-            Aide::Warden(warden) => warden.next(),
-        }
-    }
-
-    fn answer(&mut self, got: &Answered) -> Result<(), PeerFault> {
-        match self {
-            Aide::Keeper(keeper) => keeper.answer(got),
-            Aide::Warden(warden) => warden.answer(got),
-        }
     }
 }

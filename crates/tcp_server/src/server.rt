@@ -8,7 +8,7 @@ ghost use Rattle.tcp_server.specs.Faults.{fault_of_core, fault_of_serving};
 ghost use Rattle.tcp_streams.specs.declared.fault.ServerFault.TheVariants.{BadSetting};
 
 use crate::gate::Gate;
-use crate::keeper::{Aide, Keeper};
+use crate::keeper::Keeper;
 use crate::warden::Warden;
 use dispatch::Core;
 use events::{App, CoreFault, Peer};
@@ -160,10 +160,9 @@ fn run_in<
         r.totals.taken ≡ sum_by (λ w. w.taken) r.workers.items) }
 {
     let (locked, pass, looks) = lock_core::<C, T>(base.alloc, hub, base.rules, commands, taken)?;
-    let keeper = Aide::Keeper(Keeper::new(base, &*locked, looks)?);
-    let mut workers = workers_for(base, ears, keeper)?;
+    let mut workers = workers_for(base, ears, Keeper::new(base, &*locked, looks)?)?;
     if let Some(warding) = &base.rules.warding {
-        workers.push(Worker::Keeps(Aide::Warden(Warden::new(base, warding)?)))?;
+        workers.push(Worker::Wards(Warden::new(base, warding)?))?;
     }
     serve_all(base, app, &*locked, pass, acceptor, workers)
 }
@@ -191,6 +190,7 @@ fn fault_of_core(fault: CoreFault) -> ServerFault
 
 /// Accepts, and serves by these workers, until all have ended.
 fn serve_all<
+    'a,
     C: Ledger + Send + Sync,
     T: Ledger + Send + Sync,
     R: Threads + Wait + Clock + RandomSource + Copy + Drop + Sync + Send + 'static,
@@ -198,7 +198,7 @@ fn serve_all<
     A: App + Sync,
     P: Peer + Send + Drop,
 >(
-    base: &Base<'_, R, L>,
+    base: &'a Base<'a, R, L>,
     app: &A,
     locked: &Locked<C, T>,
     mut pass: Pass<C, T>,
@@ -213,19 +213,13 @@ fn serve_all<
     let number = workers.len();
     let ids = sources(base.rt, base.alloc, number)?;
     let accepting = start_accepting(base, acceptor)?;
-    let gate = Gate {
-        rt: base.rt,
-        alloc: base.alloc,
-        shared: &**base.shared,
-        pressed: Mutex::new(Vec::new(base.alloc)),
-        has_warden: base.rules.warding.is_some(),
-    };
+    let pressed = Mutex::new(Vec::new(base.alloc));
     let pool = Pool {
         rt: base.rt,
         alloc: base.alloc,
         locked,
         app,
-        gate: &gate,
+        gate: &Gate { base, pressed },
         turns: u64::MAX,
     };
     let served = serve_peers(&pool, &mut pass, workers, number, ids);

@@ -7,6 +7,7 @@ ghost use Rattle.tcp_server.specs.Progress as progress;
 use crate::keeper::note_lists;
 use crate::wards::{Wards, event_of, told_in};
 use events::{Answered, CoreFault, Event, Frames, Outcome, Peer, PeerFault};
+use guarded::Deadlines;
 use loop_rules::Notes;
 use peers::Moments;
 use settings::Warding;
@@ -120,19 +121,6 @@ pub(crate) fn ends_stretch(due: usize) -> bool
 }
 
 impl Progress {
-    /// It has no client yet.
-    pub(crate) fn new() -> Progress
-        ensures { result ≡ progress.at_first }
-    {
-        Progress {
-            client: 0,
-            stage: Stage::Opens,
-            rests: false,
-            begun: false,
-            look: 0,
-        }
-    }
-
     /// What it does now about an answer, if anything.
     pub(crate) fn task(self, heard: Heard, now: u64) -> Option<Task>
         ensures { result ≡ progress.task heard now self }
@@ -205,13 +193,23 @@ impl<'a, R: Wait + Clock + Copy, L: Log> Warden<'a, R, L> {
     pub(crate) fn new(base: &'a Base<'a, R, L>, warding: &'a Warding) -> Result<Self, AllocError>
         ensures progress { IfOk result (λ warden. warden.progress ≡ progress.at_first) }
         ensures nobody { IfOk result (λ warden. warden.wards.deadlines ≡ []) }
+        ensures due { IfOk result (λ warden. warden.wards.due.items ≡ []) }
     {
         Ok(Warden {
             base,
             watch: base.watch,
             warding,
-            progress: Progress::new(),
-            wards: Wards::new(base.alloc),
+            progress: Progress {
+                client: 0,
+                stage: Stage::Opens,
+                rests: false,
+                begun: false,
+                look: 0,
+            },
+            wards: Wards {
+                deadlines: Deadlines::new(base.alloc),
+                due: Vec::new(base.alloc),
+            },
             notes: Notes::new(base.alloc, base.rules.loops)?,
         })
     }

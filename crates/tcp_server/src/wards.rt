@@ -35,17 +35,6 @@ pub(crate) struct Wards {
 }
 
 impl Wards {
-    /// Nobody came yet.
-    pub(crate) fn new(alloc: Global) -> Wards
-        ensures deadlines { result.deadlines ≡ [] }
-        ensures due { result.due.items ≡ [] }
-    {
-        Wards {
-            deadlines: Deadlines::new(alloc),
-            due: Vec::new(alloc),
-        }
-    }
-
     /// Notes what it is told. One that is away now may come back up to this moment. Answers whether
     /// one has come back, which may be due already.
     pub(crate) fn note(&mut self, told: Told, until: u64) -> Result<bool, AllocError>

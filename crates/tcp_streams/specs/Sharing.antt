@@ -5,7 +5,6 @@ use Rattle.std.specs.declared.vec.Vec.{Vec}
 use Rattle.tcp_streams.specs.declared.shared.Backends.{Backends}
 use Rattle.tcp_streams.specs.declared.inbox.Inbox.{Inbox}
 use Rattle.tcp_streams.specs.declared.shared.Shared.{Shared}
-use Rattle.tcp_streams.specs.Shown.{places_of}
 
 -- each loop has its inbox; there is a place for what is shown to each loop and to the keeper; and it is known who is
 -- there where somebody hears of clients
@@ -13,4 +12,4 @@ pub record Begins (its_inboxes : Vec Inbox Global) (known : Option Backends) (he
   pub inboxes : s.inboxes ≡ its_inboxes
   pub backends : s.backends ≡ known
   pub lives : is_some s.lives ≡ hears_clients
-  pub places : places_of s.showing ≡ min (vec_len its_inboxes + 1) 18446744073709551615
+  pub places : vec_len s.showing ≡ min (vec_len its_inboxes + 1) 18446744073709551615

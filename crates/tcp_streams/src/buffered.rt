@@ -40,7 +40,7 @@ pub struct Buffered<S> {
 
 impl<S> Buffered<S> {
     ghost use Rattle.std.specs.Prelude.{false};
-    ghost use Rattle.tcp_streams.specs.Outputs.{HasGone, is_cut, reads_by, rests, waiting};
+    ghost use Rattle.tcp_streams.specs.Outputs.{HasGone, is_cut, reads_by, waiting};
 
     /// Nothing was read or written yet.
     pub fn new(alloc: Global, inner: S) -> Buffered<S>
@@ -88,13 +88,6 @@ impl<S> Buffered<S> {
         ensures { result ≡ length (waiting self.now) }
     {
         self.output.len() - self.sent
-    }
-
-    // What came before the last byte is little, and its reader is done then.
-    fn rests(&self) -> bool
-        ensures { result ≡ rests self.now }
-    {
-        self.drained || (self.unbrought >= self.most && !self.ended)
     }
 
     fn forget(&mut self)
@@ -150,27 +143,18 @@ impl<S: Write> Buffered<S> {
         ensures fault { IfErr result (λ e. error_kind e ≢ ErrorKind.WouldBlock) }
     {
         let before = self.unsent();
-        self.hand_on()?;
-        Ok(before - self.unsent())
-    }
-
-    // Hands the stream what waits, until it takes no more.
-    fn hand_on(&mut self) -> io::Result<()>
-        ensures first { HandsFirst (S.contents self.old.inner) (S.contents self.new.inner)
-            (waiting self.old) (waiting self.new) }
-        ensures reads { reads_by self.new ≡ reads_by self.old }
-        ensures fault { IfErr result (λ e. error_kind e ≢ ErrorKind.WouldBlock) }
-    {
         while self.unsent() > 0 {
             match self.inner.write(&self.output[self.sent..]) {
                 Ok(0) => return Err(io::Error::from(ErrorKind::WriteZero)),
                 Ok(count) => self.sent += count,
-                Err(error) if error.kind() == ErrorKind::WouldBlock => return Ok(()),
+                Err(error) if error.kind() == ErrorKind::WouldBlock => {
+                    return Ok(before - self.unsent());
+                }
                 Err(error) => return Err(error),
             }
         }
         self.forget();
-        Ok(())
+        Ok(before)
     }
 }
 
@@ -199,7 +183,8 @@ impl<S: Read> Read for Buffered<S> {
         if self.cut {
             return Ok(0);
         }
-        if self.rests() {
+        // What came before the last byte is little, and its reader is done then.
+        if self.drained || (self.unbrought >= self.most && !self.ended) {
             return Err(io::Error::from(ErrorKind::WouldBlock));
         }
         let read = self.inner.read(buf);

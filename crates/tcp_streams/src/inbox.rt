@@ -47,7 +47,7 @@ pub struct Handed {
 #[derive(Drop)]
 pub struct Inbox {
     /// Where new connections are sent.
-    streams: Sender<Accepted>,
+    pub streams: Sender<Accepted>,
     /// What was handed in beside these; its loop takes it here.
     pub mailbox: Mutex<Mailbox<Handed>>,
     waker: Waker,
@@ -111,10 +111,5 @@ impl Inbox {
         let given = self.streams.send_timeout(rt, accepted, most).is_ok();
         self.put(rt, |_| {});
         given
-    }
-
-    /// Whether nothing was handed in, so that the loop may sleep until its bell is rung.
-    pub fn falls_asleep(&self, rt: &impl Wait) -> bool {
-        self.mailbox.lock(rt).fall_asleep(self.streams.is_empty())
     }
 }

@@ -16,4 +16,4 @@ pub use fault::ServerFault;
 pub use inbox::{Accepted, Ears, Handed, Inbox, ears_for};
 pub use log::{Ending, Log, News};
 pub use rules::Rules;
-pub use shared::{Backends, Shared, Showing, Shown, Sign, Standing, backends_for};
+pub use shared::{Backends, Shared, Shown, Sign, Standing, backends_for};

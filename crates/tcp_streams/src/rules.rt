@@ -1,6 +1,6 @@
 //! What a server's settings come to.
 
-ghost use Rattle.std.specs.Prelude.{◌≡◌, ◌<◌, ◌*◌, ◌/◌, IfOk, option_copied, option_map, string_bytes};
+ghost use Rattle.std.specs.Prelude.{◌≡◌, ◌<◌, IfOk, option_copied, option_map, string_bytes};
 ghost use Rattle.std.specs.Box.{box_value};
 ghost use Rattle.tcp_streams.specs.Rules as rules;
 
@@ -23,8 +23,8 @@ pub struct Rules {
     pub loops: usize,
     /// How many entries one payload over HTTP may have.
     pub poll_entries: usize,
-    /// How many bytes all that is being received may have together.
-    pub receiving: usize,
+    /// How many bytes all that one loop is receiving may have.
+    pub share: usize,
     /// The origins of the pages that are served, `*` for all. Where there are none, all are.
     pub origins: Vec<String>,
     /// The files that are served beside the socket's path.
@@ -35,6 +35,9 @@ pub struct Rules {
     pub report: Option<u64>,
     /// When a client is pinged, and when it is given up, in milliseconds.
     pub timing: Timing,
+    /// How long the clients of a backend for which much waits aren't read at a stretch, in
+    /// milliseconds: less than what they have for the answer to a ping.
+    pub stretch: u64,
     /// What clients are told of that, in milliseconds, and of their payloads, in bytes.
     pub numbers: Numbers,
     /// How fast one client may send, if that is bounded.
@@ -44,21 +47,6 @@ pub struct Rules {
     /// How long a session is saved, in milliseconds.
     pub keep: u64,
     ghost some: { 0 < loops },
-}
-
-/// How fast one client may send. It waits for no longer than three eighths of the time that it has
-/// for the answer to a ping, so that what it sends now and the answer behind it come in time; but
-/// for a second where that is longer.
-fn pace_of(settings: &Settings) -> Option<Pace>
-    ensures { result ≡ rules.pace_of settings.now.timing.ping_timeout settings.now.pace }
-{
-    let pace = settings.pace?;
-    let stretch = settings.timing.ping_timeout / 8 * 3;
-    Some(Pace {
-        rate: pace.rate,
-        burst: pace.burst,
-        stretch: stretch.max(SECOND),
-    })
 }
 
 impl Rules {
@@ -73,14 +61,23 @@ impl Rules {
         ensures rules { IfOk result (λ made. GoesBy settings (box_value made.0)) }
         ensures limits { IfOk result (λ made. box_value made.1 ≡ settings.hub) }
     {
-        let pace = pace_of(&settings);
+        let answered = settings.timing.ping_timeout;
+        // Who sends too fast waits for no longer than three eighths of the time that it has for
+        // the answer to a ping, so that what it sends now and the answer behind it come in time;
+        // but for a second where that is longer.
+        let most = (answered / 8 * 3).max(SECOND);
         let rules = Rules {
-            pace,
+            pace: settings.pace.map(|pace| Pace {
+                rate: pace.rate,
+                burst: pace.burst,
+                stretch: most,
+            }),
             numbers: settings.numbers(),
             timing: settings.timing,
+            stretch: answered / 4 * 3,
             loops: settings.workers,
             poll_entries: settings.poll_entries,
-            receiving: settings.receiving,
+            share: settings.receiving / settings.workers,
             origins: settings.origins,
             page: settings.page,
             metrics: settings.metrics,
@@ -89,21 +86,6 @@ impl Rules {
             keep: settings.hub.keep,
         };
         Ok((Box::new(alloc, rules)?, Box::new(alloc, settings.hub)?))
-    }
-
-    /// How many bytes all that one loop is receiving may have.
-    pub fn share(&self) -> usize
-        ensures { result ≡ self.now.receiving / self.now.loops }
-    {
-        self.receiving / self.loops
-    }
-
-    /// How long the clients of a backend for which much waits aren't read at a stretch, in
-    /// milliseconds: less than what they have for the answer to a ping.
-    pub fn stretch(&self) -> u64
-        ensures { result ≡ self.now.timing.ping_timeout / 4 * 3 }
-    {
-        self.timing.ping_timeout / 4 * 3
     }
 
     /// Whether a request asks for the counts.

@@ -1,11 +1,11 @@
 //! What all threads of a server share, beside the core.
 
-ghost use Rattle.std.specs.Prelude.{◌≡◌, ◌≤◌, ◌+◌, ◌-◌, ◌↔◌, ◌⊎◌, ◌++◌, ◌∷◌, [], IsTrue, IsErrOf, IfOk, IfErr, IfNone, OnOk, OnErr, None, false, option_copied, option_map};
+ghost use Rattle.std.specs.Prelude.{◌≡◌, ◌≤◌, ◌+◌, ◌-◌, ◌↔◌, ◌⊎◌, IsTrue, IsErrOf, IfOk, IfErr, OnOk, OnErr, None, false, option_map, vec_len};
 ghost use Rattle.std.specs.Arc.{arc_value};
 ghost use Rattle.tcp_streams.specs.Backends as backends;
 ghost use Rattle.tcp_streams.specs.Sharing.{Begins};
 ghost use Rattle.tcp_streams.specs.Shown as shown;
-ghost use Rattle.tcp_streams.specs.Shown.{ShowsNothing, place_of, places_of};
+ghost use Rattle.tcp_streams.specs.Shown.{ShowsNothing};
 ghost use Rattle.tcp_streams.specs.Standings as standings;
 ghost use Rattle.tcp_streams.specs.Standings.{HasPlace, IsCrowded};
 
@@ -17,7 +17,6 @@ use mio::Waker;
 use settings::Settings;
 use std::alloc::{AllocError, Global};
 use std::collections::HashMap;
-use std::mem;
 use std::rt::Clock;
 use std::sync::{Arc, Condvar, CondvarTimeouts, Mutex, Wait};
 use std::time::Duration;
@@ -36,7 +35,7 @@ pub struct Shared {
     /// What is known of the backends, if there may be some.
     pub backends: Option<Backends>,
     /// What the core's state showed to each loop, and to the keeper.
-    pub showing: Showing,
+    pub showing: Vec<Mutex<Shown>>,
     /// How far the server is.
     pub standing: Mutex<Standing>,
     /// The workers that have begun, the keeper among them, and the warden, if there is one.
@@ -93,7 +92,7 @@ impl Shared {
     {
         let shared = Shared {
             counts: Mutex::new(Metrics::new(alloc, inboxes.len())?),
-            showing: Showing::new(alloc, inboxes.len().saturating_add(1))?,
+            showing: showing_for(alloc, inboxes.len().saturating_add(1))?,
             inboxes,
             acceptor,
             backends,
@@ -296,16 +295,6 @@ impl Shown {
         }
     }
 
-    /// An event showed this. Where there is no memory for it, it is as if it had shown nothing.
-    pub fn add(&mut self, sign: Sign)
-        ensures sign { (self.new.signs.items ≡ self.old.signs.items ++ sign ∷ [])
-            ⊎ (self.new.signs.items ≡ self.old.signs.items) }
-        ensures pressed { self.new.pressed ≡ self.old.pressed }
-        ensures relieved { self.new.relieved ≡ self.old.relieved }
-    {
-        let _ = self.signs.push(sign);
-    }
-
     /// Whether nothing waited for a client after its message.
     pub fn rests(&self, client: u128) -> bool
         ensures { result ≡ shown.rests client self.now.signs.items }
@@ -325,39 +314,13 @@ impl Shown {
     }
 }
 
-/// What was shown to each worker.
-#[derive(Drop)]
-pub struct Showing {
-    places: Vec<Mutex<Shown>>,
-}
-
-impl Showing {
-    /// Nothing was shown to so many workers yet.
-    pub fn new(alloc: Global, workers: usize) -> Result<Showing, AllocError>
-        ensures { IfOk result (λ showing. places_of showing ≡ workers) }
-    {
-        let mut places = Vec::new(alloc);
-        for _worker in 0..workers {
-            places.push(Mutex::new(Shown::new(alloc)))?;
-        }
-        Ok(Showing { places })
+/// What is shown to so many workers: nothing yet.
+fn showing_for(alloc: Global, workers: usize) -> Result<Vec<Mutex<Shown>>, AllocError>
+    ensures { IfOk result (λ showing. vec_len showing ≡ workers) }
+{
+    let mut showing = Vec::new(alloc);
+    for _worker in 0..workers {
+        showing.push(Mutex::new(Shown::new(alloc)))?;
     }
-
-    /// Where what is shown to a worker lies, if something is.
-    pub fn of(&self, worker: usize) -> Option<&Mutex<Shown>>
-        ensures { option_copied result ≡ place_of worker self.now }
-    {
-        self.places.get(worker)
-    }
-
-    /// Takes what was shown to a worker, and leaves this in its place, of which all was heeded. To
-    /// one that has no place nothing was shown.
-    pub fn take(&self, rt: &impl Wait, worker: usize, shown: &mut Shown)
-        ensures { IfNone (place_of worker self.now) (ShowsNothing shown.new) }
-    {
-        shown.clear();
-        if let Some(place) = self.of(worker) {
-            mem::swap(&mut *place.lock(rt), shown);
-        }
-    }
+    Ok(showing)
 }

@@ -1,6 +1,6 @@
 use Rattle.std.proofs.Common.{◌≡◌, ◌-◌, length}
 use Rattle.tcp_streams.specs.Outputs.{HandsFirst, reads_by, waiting}
-use Rattle.tcp_streams.proofs.buffered.Buffered.hand_on.Given as goal
+use Rattle.tcp_streams.proofs.buffered.Buffered.send.Given as goal
 
 abbrev pub invariant-loop-self : goal.invariant-loop-self
 invariant-loop-self g l =
