@@ -3,7 +3,7 @@
 ghost use Rattle.std.specs.Prelude.{◌≡◌, [], None, IfOk, codes, map, option_map, string_bytes};
 ghost use Rattle.clap.specs.Words.{found_of};
 ghost use Rattle.arguments.specs.Asked as asked;
-ghost use Rattle.arguments.specs.Asked.{AsksHub, AsksLimits, AsksNumbers, AsksPace, AsksTexts, AsksTiming, IsSaid, IsSaidIn, IsSaidUnless0, Says};
+ghost use Rattle.arguments.specs.Asked.{AsksHub, AsksLimits, AsksNumbers, AsksPace, AsksTexts, AsksTiming, IsSaid, IsSaidIn, IsSaidUnless0};
 
 use clap::ArgMatches;
 use connection::Timing;
@@ -68,19 +68,12 @@ fn unless_0(matches: &ArgMatches<'_>, name: &str) -> Option<u64>
     (number != 0).then_some(number)
 }
 
-/// The number that an option says, if it says one.
-fn said(matches: &ArgMatches<'_>, name: &str) -> Option<u64>
-    ensures { Says 64 (found_of matches.now) name.now result }
-{
-    matches.get_one(name)
-}
-
 /// How fast one client may send, if that is bounded: as many events at once as a second where that
 /// isn't said.
 fn pace(matches: &ArgMatches<'_>) -> Option<Pace>
     ensures { AsksPace (found_of matches.now) result }
 {
-    let (rate, burst) = (said(matches, "pace"), said(matches, "burst"));
+    let (rate, burst) = (matches.get_one("pace"), matches.get_one("burst"));
     let rate = rate?;
     let burst = burst.unwrap_or(rate);
     Some(Pace { rate, burst })
@@ -93,38 +86,27 @@ fn port(matches: &ArgMatches<'_>) -> u16
     matches.get_one("port").unwrap_or(0)
 }
 
-/// How many clients there may be at a time: a warden has one more.
-fn clients(number: usize, has_warden: bool) -> usize
-    ensures { result ≡ asked.clients_with has_warden number }
-{
-    if has_warden {
-        number.saturating_add(1)
-    } else {
-        number
-    }
-}
-
 /// The namespaces, as they are named, that of the backends where there may be some, and that of the
 /// warden where there is one.
-fn spaces(
+fn spaces<'a>(
     alloc: Global,
-    named: &[&str],
+    named: &[&'a str],
     has_backends: bool,
     has_warden: bool,
-) -> Result<Vec<Text>, AllocError>
-    ensures { IfOk result (λ spaces. spaces.items
+) -> Result<Vec<&'a str>, AllocError>
+    ensures { IfOk result (λ spaces. map (λ name. name.now) spaces.items
         ≡ asked.spaces_of (map (λ name. name.now) named.now) has_backends has_warden) }
 {
     let mut spaces = Vec::new(alloc);
-    spaces.push(Text::copy_of(alloc, "/")?)?;
+    spaces.push("/")?;
     for name in named {
-        spaces.push(Text::copy_of(alloc, name)?)?;
+        spaces.push(*name)?;
     }
     if has_backends {
-        spaces.push(Text::copy_of(alloc, BACKENDS)?)?;
+        spaces.push(BACKENDS)?;
     }
     if has_warden {
-        spaces.push(Text::copy_of(alloc, EXPIRY)?)?;
+        spaces.push(EXPIRY)?;
     }
     Ok(spaces)
 }
@@ -133,21 +115,14 @@ fn spaces(
 fn hub(alloc: Global, matches: &ArgMatches<'_>, has_warden: bool) -> Result<Config, AllocError>
     ensures { IfOk result (AsksHub (found_of matches.now) has_warden) }
 {
-    let limits = limits(matches);
+    let mut limits = limits(matches);
+    if has_warden {
+        // It is a client too.
+        limits.clients = limits.clients.saturating_add(1);
+    }
     let has_backends = matches.get_str("backend-token").is_some();
     let named = matches.get_strs("space").unwrap_or(&[]);
-    let spaces = spaces(alloc, named, has_backends, has_warden)?;
-    Ok(Config {
-        clients: clients(limits.clients, has_warden),
-        capacity: limits.capacity,
-        bytes: limits.bytes,
-        log: limits.log,
-        log_bytes: limits.log_bytes,
-        saved: limits.saved,
-        keep: limits.keep,
-        first_offset: limits.first_offset,
-        spaces,
-    })
+    limits.config(alloc, &spaces(alloc, named, has_backends, has_warden)?)
 }
 
 /// Takes the numbers that are asked for.
@@ -173,7 +148,7 @@ fn set_numbers(matches: &ArgMatches<'_>, settings: &mut Settings)
     settings.poll_entries = size(matches, "poll-entries", usual::POLL_ENTRIES);
     settings.report = unless_0(matches, "report");
     settings.pace = pace(matches);
-    settings.connections_from = said(matches, "connections-from");
+    settings.connections_from = matches.get_one("connections-from");
 }
 
 /// Copies of texts.

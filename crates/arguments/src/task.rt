@@ -11,7 +11,7 @@ use crate::options::{Options, server, usual_texts};
 use crate::wrong::{Wrong, check_backend, check_need, check_settings};
 use clap::error::ErrorKind;
 use clap::{ArgMatches, Command, Error};
-use page::{FolderError, Page, read_folder};
+use page::{FolderError, read_folder};
 use std::alloc::{AllocError, Global};
 use std::rt::{Env, Files};
 use std::{env, io};
@@ -168,7 +168,11 @@ fn read_files<R: Files + AllocGlobal + Clone + Drop>(
     } }
 {
     if let Some(folder) = matches.get_str("page") {
-        options.settings.page = page_in(rt, folder)?;
+        options.settings.page = match read_folder(rt, folder) {
+            Ok(page) => page,
+            Err(FolderError::Memory(refused)) => return Err(Wrong::Memory(refused)),
+            Err(fault) => return Err(Wrong::Page(String::from_str(rt.alloc(), folder)?, fault)),
+        };
     }
     options.token = token_in(rt, "token-file", matches.get_str("token-file"))?;
     let files = matches.get_strs("jwt-key").unwrap_or(&[]);
@@ -180,13 +184,4 @@ fn read_files<R: Files + AllocGlobal + Clone + Drop>(
     )?;
     options.backend = token_in(rt, "backend-token", matches.get_str("backend-token"))?;
     check_backend(&options.backend, &options.token, options.tell_left)
-}
-
-/// The files of a folder.
-fn page_in<R: Files + AllocGlobal + Clone + Drop>(rt: &R, folder: &str) -> Result<Page, Wrong> {
-    match read_folder(rt, folder) {
-        Ok(page) => Ok(page),
-        Err(FolderError::Memory(refused)) => Err(Wrong::Memory(refused)),
-        Err(fault) => Err(Wrong::Page(String::from_str(rt.alloc(), folder)?, fault)),
-    }
 }

@@ -58,20 +58,15 @@ pub(crate) enum Wrong {
     OneToken,
 }
 
-/// Whether a scheme or a host may have this byte.
-fn is_part_byte(byte: u8) -> bool
-    ensures { result ≡ rules.is_part_byte byte }
-{
-    byte.is_ascii_lowercase()
-        || byte.is_ascii_digit()
-        || matches!(byte, b'+' | b'-' | b'.' | b'_' | b':' | b'[' | b']')
-}
-
 /// Whether one of the bytes may stand in no scheme and no host.
 fn has_strange_part(bytes: &[u8]) -> bool
     ensures { result ≡ list_any (λ b. not (rules.is_part_byte b)) bytes.now }
 {
-    bytes.iter().any(|byte| !is_part_byte(*byte))
+    bytes.iter().any(|byte| {
+        !(byte.is_ascii_lowercase()
+            || byte.is_ascii_digit()
+            || matches!(*byte, b'+' | b'-' | b'.' | b'_' | b':' | b'[' | b']'))
+    })
 }
 
 /// Whether a browser may name this origin (RFC 6454, section 6.2): a scheme with its colon, a slash and
@@ -89,18 +84,11 @@ fn is_origin(text: &str) -> bool
     is_scheme && host.len() > 1 && host[0] == b'/' && !has_strange_part(&host[1..])
 }
 
-/// Whether a path may have this byte.
-fn is_path_byte(byte: u8) -> bool
-    ensures { result ≡ rules.is_path_byte byte }
-{
-    byte.is_ascii_graphic() && byte != b'?' && byte != b'#'
-}
-
 /// Whether one of the bytes may stand in no path.
 fn has_strange_path(bytes: &[u8]) -> bool
     ensures { result ≡ list_any (λ b. not (rules.is_path_byte b)) bytes.now }
 {
-    bytes.iter().any(|byte| !is_path_byte(*byte))
+    bytes.iter().any(|byte| !(byte.is_ascii_graphic() && *byte != b'?' && *byte != b'#'))
 }
 
 /// Whether this is the path of the socket.
