@@ -15,9 +15,9 @@ use Rattle.std.specs.Cmp.{IsTotalOrder, Equal-is}
 use Rattle.std.specs.BTreeMap as tree
 use Rattle.std.specs.BTreeSet as sorted
 use Rattle.terms.specs.Room.{room_cmp}
-use Rattle.room_maps.specs.Links.{is_linked, is_in_some}
+use Rattle.room_maps.specs.Links.{is_in_some}
 use Rattle.room_maps.specs.Membership.{is_socket, is_in}
-use Rattle.room_maps.specs.Mirror.{SocketMap, RoomMap, Mirror, pairs_of, sets_of}
+use Rattle.room_maps.specs.Mirror.{SocketMap, RoomMap, Mirror, is_member_of_one, pairs_of, sets_of}
 use Rattle.terms.specs.Audience.{names_no_room, is_for}
 use Rattle.room_maps.specs.Addressed.{is_addressed}
 use Rattle.room_maps.proofs.MirrorLemmas.{contains-sockets_of, contains-pairs_of, known_of}
@@ -137,10 +137,9 @@ addressed_sockets a rooms excepted none s = at (tree.get nat_cmp a s) (contains-
 
 -- with rooms named: their members but those in an excepted one
 pub addressed_members : (a : SocketMap) (b : RoomMap) → Mirror a b (pairs_of a) → (rooms excepted : List (List ℕ)) → names_no_room rooms ≡ false → (s : ℕ)
-    → (list_any (λ room. is_linked room_cmp nat_cmp b room s) rooms && not (list_any (is_linked nat_cmp room_cmp a s) excepted)) ≡ is_addressed (sets_of a) rooms excepted s
+    → (is_member_of_one b rooms s && not (is_member_of_one b excepted s)) ≡ is_addressed (sets_of a) rooms excepted s
 addressed_members a b h rooms excepted some s =
-    ap (λ p. list_any p rooms && not (list_any (is_linked nat_cmp room_cmp a s) excepted)) (λ i r. h.rooms_side s r i)
-    ∙ ap (λ p. list_any (is_in (sets_of a) s) rooms && not (list_any p excepted)) (λ i r. h.sockets_side s r i)
+    ap (λ p. list_any p rooms && not (list_any p excepted)) (λ i r. h.rooms_side s r i)
     ∙ with_socket (is_socket (sets_of a) s) (list_any (is_in (sets_of a) s) rooms) (not (list_any (is_in (sets_of a) s) excepted)) (known rooms)
     ∙ ap (λ c. is_socket (sets_of a) s && ((c || list_any (is_in (sets_of a) s) rooms) && not (list_any (is_in (sets_of a) s) excepted))) (sym some)
   where

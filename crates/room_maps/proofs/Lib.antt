@@ -1,6 +1,7 @@
 pub mod BooleanLemmas
 pub mod OrderLemmas
 pub mod ListLemmas
+pub mod RetainLemmas
 pub mod LinksLemmas
 pub mod MembershipLemmas
 pub mod MembershipLaws

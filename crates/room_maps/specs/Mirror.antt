@@ -43,10 +43,6 @@ pairs_of a = set.from_list (flat_map (pairs_at a) (tree.keys a))
 abbrev pub sets_of : SocketMap → RoomSets
 sets_of a = record { sockets = sockets_of a; pairs = pairs_of a }
 
--- the socket is in one of the rooms, as a map of sockets has it
-abbrev pub is_in_one_of : SocketMap → List (List ℕ) → ℕ → Bool
-is_in_one_of a rooms sid = list_any (is_linked nat_cmp room_cmp a sid) rooms
-
 -- one of the rooms has the socket, as a map of rooms has it
 abbrev pub is_member_of_one : RoomMap → List (List ℕ) → ℕ → Bool
 is_member_of_one b rooms sid = list_any (λ room. is_linked room_cmp nat_cmp b room sid) rooms

@@ -1,14 +1,14 @@
 //! Maps from keys to sets that are not empty, read as the set of their links, and rising lists of
 //! what they hold (Socket.IO server documentation, "Adapter").
 
-ghost use Rattle.std.specs.Prelude.{◌≡◌, ◌&&◌, not, OnOk, OnErr, IfOk, map, filter};
+ghost use Rattle.std.specs.Prelude.{◌≡◌, ◌&&◌, ℕ, not, OnOk, OnErr, IfOk, map, filter};
 ghost use Rattle.std.specs.Ordering.{eq_by_cmp, nat_cmp};
 ghost use Rattle.std.specs.BTreeSet as sorted;
 ghost use Rattle.std.specs.List.Sorted.{IsStrictlySortedBy};
 ghost use Rattle.room_maps.specs.Links.{is_linked, HasNoEmptySet, IsUnchanged, AddsLink};
 ghost use Rattle.std.specs.List.{list_any, flat_map, AllByRecursion};
 ghost use Rattle.std.specs.BTreeMap as tree;
-ghost use Rattle.room_maps.specs.Mirror.{entry_pairs, HasRisingRooms, is_in_one_of, is_member_of_one};
+ghost use Rattle.room_maps.specs.Mirror.{entry_pairs, HasRisingRooms, is_member_of_one};
 ghost use Rattle.terms.specs.Room.{room_cmp};
 ghost use Rattle.terms.specs.Listing.{ListsRising};
 
@@ -96,19 +96,6 @@ fn meets(inside: &BTreeSet<Room>, rooms: &[Room]) -> bool
     rooms.iter().any(|room| inside.contains(room))
 }
 
-/// Whether the socket is in one of the rooms.
-fn is_in_any(by_socket: &SocketMap, sid: Sid, rooms: &[Room]) -> bool
-    ensures { result ≡ is_in_one_of by_socket.now rooms.now sid }
-{
-    if rooms.is_empty() {
-        return false;
-    }
-    match by_socket.get(&sid) {
-        Some(inside) => meets(inside, rooms),
-        None => false,
-    }
-}
-
 /// All sockets but those in an excepted room. It walks the sockets once.
 pub(crate) fn sockets_but(
     alloc: Global,
@@ -128,26 +115,47 @@ pub(crate) fn sockets_but(
 }
 
 /// The sockets in one of the rooms but those in an excepted one, rising. It walks the members of
-/// the rooms.
+/// the rooms, and looks each excepted room up once.
 pub(crate) fn members_but(
     alloc: Global,
-    by_socket: &SocketMap,
     by_room: &RoomMap,
     rooms: &[Room],
     excepted: &[Room],
 ) -> Result<Vec<Sid>, AllocError>
     ensures { IfOk result (λ r. ListsRising nat_cmp (λ s. is_member_of_one by_room.now rooms.now s
-        && not (is_in_one_of by_socket.now excepted.now s)) r.items) }
+        && not (is_member_of_one by_room.now excepted.now s)) r.items) }
 {
     let mut sids = Vec::new(alloc);
     for room in rooms {
         let Some(members) = by_room.get(room) else {
             continue;
         };
-        let members = members.iter().copied();
-        sids.extend(members.filter(|sid| !is_in_any(by_socket, *sid, excepted)))?;
+        sids.extend(members.iter().copied())?;
     }
+    retain_others(&mut sids, by_room, excepted);
     Ok(rising(sids))
+}
+
+/// Keeps the sockets that are none of these members.
+fn retain_outside(sids: &mut Vec<Sid>, members: &BTreeSet<Sid>)
+    ensures { sids.new.items
+        ≡ filter (λ s. not (sorted.contains nat_cmp members.now s)) sids.old.items }
+{
+    sids.retain(|sid| !members.contains(sid));
+}
+
+/// Keeps the sockets that are in none of the rooms.
+fn retain_others(sids: &mut Vec<Sid>, by_room: &RoomMap, rooms: &[Room])
+    ensures { (s : ℕ) → list_any (eq_by_cmp nat_cmp s) sids.new.items
+        ≡ (list_any (eq_by_cmp nat_cmp s) sids.old.items
+        && not (is_member_of_one by_room.now rooms.now s)) }
+{
+    for room in rooms {
+        let Some(members) = by_room.get(room) else {
+            continue;
+        };
+        retain_outside(sids, members);
+    }
 }
 
 /// The sockets, rising, each once.

@@ -246,7 +246,7 @@ impl Rooms {
         if rooms.is_empty() {
             Ok(links::sockets_but(alloc, &self.by_socket, excepted)?)
         } else {
-            Ok(links::members_but(alloc, &self.by_socket, &self.by_room, rooms, excepted)?)
+            Ok(links::members_but(alloc, &self.by_room, rooms, excepted)?)
         }
     }
 

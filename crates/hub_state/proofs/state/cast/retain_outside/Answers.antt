@@ -1,5 +1,5 @@
 use Rattle.std.proofs.Common.{rules, ◌≡◌, refl}
-use Rattle.hub_state.proofs.RetainLemmas.{filtered_by}
+use Rattle.room_maps.proofs.RetainLemmas.{filtered_by}
 use Rattle.hub_state.proofs.state.cast.retain_outside.Goals as goal
 
 pub returns : goal.returns

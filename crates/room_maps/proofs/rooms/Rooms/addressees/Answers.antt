@@ -5,7 +5,7 @@ use Rattle.std.specs.Cmp.{nat_cmp_total}
 use Rattle.terms.specs.Room.{room_cmp}
 use Rattle.terms.specs.Listing.{ListsRising}
 use Rattle.room_maps.specs.Addressed.{is_addressed}
-use Rattle.room_maps.specs.Mirror.{is_in_one_of, is_member_of_one}
+use Rattle.room_maps.specs.Mirror.{is_member_of_one}
 use Rattle.room_maps.proofs.AddressedLemmas.{room_named, kept_keys, rises_kept, contains_kept, addressed_sockets, addressed_members}
 use Rattle.room_maps.proofs.rooms.Rooms.addressees.Goals as goal
 
@@ -23,7 +23,7 @@ returns-in_ok-sockets_but-clause-addressed c =
 
 pub returns-in_ok-members_but-clause-addressed : goal.returns-in_ok-members_but-clause-addressed
 returns-in_ok-members_but-clause-addressed c =
-    let same : (s : ℕ) → (is_member_of_one c.self.inside.by_room c.args.rooms.now s && not (is_in_one_of c.self.inside.by_socket c.args.excepted.now s)) ≡ is_addressed c.args.self.now c.args.rooms.now c.args.excepted.now s
+    let same : (s : ℕ) → (is_member_of_one c.self.inside.by_room c.args.rooms.now s && not (is_member_of_one c.self.inside.by_room c.args.excepted.now s)) ≡ is_addressed c.args.self.now c.args.rooms.now c.args.excepted.now s
     = λ s. addressed_members c.self.inside.by_socket c.self.inside.by_room c.self.invariant.0 c.args.rooms.now c.args.excepted.now
     (sym (c.is_empty.ensures ∙ room_named c.args.rooms.now) ∙ c.if-is_empty.false) s
     ∙ ap (λ v. is_addressed v c.args.rooms.now c.args.excepted.now s) c.self.view_is in
