@@ -359,7 +359,7 @@ pub fn loop_of(id: u128, loops: usize) -> usize
     ensures of { result ≡ loop_of id loops }
     ensures among { result < loops }
 {
-    ((id % LOOPS) % (loops as u128)) as usize
+    (id % LOOPS) as usize % loops
 }
 
 /// The loop that serves a request that came to this one: the one that has its client.

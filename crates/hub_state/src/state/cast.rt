@@ -47,7 +47,7 @@ pub(crate) fn sockets_in(
     ensures ok { IfOk result (λ sockets. sockets.items
         ≡ flat_map (λ s. in_space space (get nat_cmp seats.now s)) sids.now) }
 {
-    let mut sockets = Vec::new(alloc);
+    let mut sockets = Vec::with_capacity(alloc, sids.len())?;
     for sid in sids {
         if let Some(socket) = seats.get(*sid)
             && socket.space == space
@@ -94,7 +94,8 @@ pub(crate) fn messages_for(
     ensures missing { IfOk result (λ both. both.1.items
         ≡ casting.missing (get nat_cmp clients.now) (arc_value entry.now) sockets.now) }
 {
-    let (mut messages, mut missing) = (Vec::new(alloc), Vec::new(alloc));
+    let mut messages = Vec::with_capacity(alloc, sockets.len())?;
+    let mut missing = Vec::new(alloc);
     for socket in sockets {
         let client = socket.client;
         if is_full(clients, client, entry) {
