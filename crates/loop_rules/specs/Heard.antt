@@ -1,5 +1,5 @@
 -- What the answer to an event of a connection says: of its look, and of others.
-use Rattle.std.specs.Prelude.{ℕ, Bool, true, false, not, ◌&&◌, ◌||◌, Option, None, Some, is_none, Ok, Err, cond, min, nat_lt}
+use Rattle.std.specs.Prelude.{ℕ, Bool, true, false, not, ◌&&◌, ◌||◌, Option, None, Some, is_none, Ok, Err, cond, min, nat_eq, nat_lt, ◌%◌}
 use Rattle.events.specs.Answer.{Answer}
 use Rattle.events.specs.declared.event.Event.{Event}
 use Rattle.events.specs.declared.event.Event.TheVariants as event
@@ -32,6 +32,11 @@ abbrev pub has_taken_all : (rests : Bool) → Answer → Bool
 has_taken_all rests (Ok (outcome.Done done)) = rests && is_none done.closed
 has_taken_all rests (Ok (outcome.Frames frames)) = not frames.more
 has_taken_all rests _ = false
+
+-- a client takes after the last of the messages that were read, and after each sixteenth of a stint
+abbrev pub reads_on : (unbrought left : ℕ) → Answer → Bool
+reads_on unbrought left (Ok (outcome.Done done)) = is_none done.closed && nat_lt 0 unbrought && not (nat_eq (left % 16) 1)
+reads_on unbrought left _ = false
 
 abbrev pub found_beside : (is_dry : Bool) → Answer → Found
 found_beside is_dry (Ok (outcome.Ticked ping done)) = cond (not ping && is_none done.closed) found.Quiet found.More

@@ -1,5 +1,5 @@
 -- What a loop decides by the round that it is in. Moments are in milliseconds.
-use Rattle.std.specs.Prelude.{ℕ, ◌+◌, ◌-◌, ◌/◌, max, min, Bool, true, false, not, ◌&&◌, ◌||◌, Option, None, Some, Ok, Err, cond, nat_eq, nat_le}
+use Rattle.std.specs.Prelude.{ℕ, ◌+◌, ◌-◌, ◌/◌, max, min, Bool, true, false, not, ◌&&◌, ◌||◌, Option, None, Some, List, [], ◌∷◌, length, Ok, Err, cond, nat_eq, nat_le}
 use Rattle.events.specs.Answer.{Answer}
 use Rattle.events.specs.declared.fault.CoreFault.{CoreFault}
 use Rattle.events.specs.declared.fault.CoreFault.TheVariants as fault
@@ -17,6 +17,8 @@ first = record {
   gives_up = false;
   tells = false;
   taken = 0;
+  reached = 0;
+  began = 0;
 }
 
 -- a round has 1,024 stints
@@ -27,10 +29,27 @@ next_of r = record r { stints = 1024 }
 abbrev pub together_of : (most : ℕ) → Round → ℕ
 together_of most r = max (min (16384 / max r.taken 1) most) 1
 
--- the last take of a WebSocket counts
-abbrev pub after_take : Answer → (bytes : ℕ) → Round → Round
-after_take (Ok (outcome.Frames frames)) bytes r = record r { taken = bytes }
-after_take _ bytes r = r
+-- and fewer messages where these are put for many clients: for about 256 together, and at least one
+abbrev pub speaking_of : (most : ℕ) → Round → ℕ
+speaking_of most r = max (min (256 / max r.reached 1) most) 1
+
+-- where those that go on brought packets, stints begin once in a moment
+abbrev pub may_begin : (spoke : Bool) → Round → Bool
+may_begin spoke r = not spoke || not (nat_eq r.began r.now)
+
+abbrev pub begun : Round → Round
+begun r = record r { stints = r.stints - 1; began = r.now }
+
+-- for how many clients the first broadcast was put
+abbrev pub first_reached : List (List ℕ) → ℕ
+first_reached [] = 0
+first_reached (ids ∷ more) = length ids
+
+-- the last take of a WebSocket counts, and the last message
+abbrev pub after_answer : Answer → (bytes : ℕ) → Round → Round
+after_answer (Ok (outcome.Frames frames)) bytes r = record r { taken = bytes }
+after_answer (Ok (outcome.Done done)) bytes r = record r { reached = first_reached done.clients }
+after_answer _ bytes r = r
 
 -- a loop sleeps until something is due, and for a second at the most
 abbrev pub sleep_of : (due : ℕ) → Round → ℕ

@@ -32,6 +32,17 @@ pub fn has_taken_all(got: &Answered, rests: bool) -> bool
     }
 }
 
+/// Whether a WebSocket that has brought a message brings what came behind it before its client
+/// takes: more was read, and its stint has so many events left. After each sixteenth it takes.
+pub fn reads_on(got: &Answered, unbrought: usize, left: u32) -> bool
+    ensures { result ≡ heard.reads_on unbrought left got.now }
+{
+    match got {
+        Ok(Outcome::Done(done)) => done.closed.is_none() && unbrought > 0 && left % 16 != 1,
+        _ => false,
+    }
+}
+
 /// What an answer says of a look: where its peer has nothing to bring until something comes, all
 /// that waited was taken, and all that came was brought, or not.
 pub fn found_by(got: &Answered, idle: bool, has_taken_all: bool, is_dry: bool) -> Found

@@ -21,6 +21,9 @@ const BEAT: u64 = 1_000;
 /// About so many bytes are taken for clients by one hold of the core's lock, so that others get it.
 const TOGETHER: usize = 16_384;
 
+/// For about so many clients one hold of the core's lock puts something.
+const REACHED: usize = 256;
+
 /// How far a loop is in its round. All moments are milliseconds of its watch.
 #[derive(Clone, Copy, Debug)]
 pub struct Round {
@@ -40,6 +43,10 @@ pub struct Round {
     pub tells: bool,
     /// How many bytes the last take of a WebSocket had.
     pub taken: usize,
+    /// For how many clients the last message put something, by its first broadcast.
+    pub reached: usize,
+    /// When a stint last began.
+    pub began: u64,
 }
 
 impl Round {
@@ -56,6 +63,8 @@ impl Round {
             gives_up: false,
             tells: false,
             taken: 0,
+            reached: 0,
+            began: 0,
         }
     }
 
@@ -74,12 +83,44 @@ impl Round {
         (TOGETHER / self.taken.max(1)).min(most).max(1)
     }
 
+    /// How many of these events that bring packets one hold of the core's lock has: one, or as those
+    /// for whom they put something leave room.
+    pub fn speaking(self, most: usize) -> usize
+        ensures { result ≡ rounds.speaking_of most self }
+    {
+        (REACHED / self.reached.max(1)).min(most).max(1)
+    }
+
+    /// Whether stints may begin, where those that go on brought packets or not: then they come
+    /// first, but for once in a moment.
+    pub fn may_begin(self, spoke: bool) -> bool
+        ensures { result ≡ rounds.may_begin spoke self }
+    {
+        !spoke || self.began != self.now
+    }
+
+    /// A stint begins.
+    pub fn begin(self) -> Round
+        ensures { result ≡ rounds.begun self }
+    {
+        let stints = self.stints.saturating_sub(1);
+        Round {
+            stints,
+            began: self.now,
+            ..self
+        }
+    }
+
     /// An event of a connection was answered, by which so many bytes more are to be sent over it.
-    pub fn note_taken(self, got: &Answered, taken: usize) -> Round
-        ensures { result ≡ rounds.after_take got.now taken self }
+    pub fn note_answer(self, got: &Answered, taken: usize) -> Round
+        ensures { result ≡ rounds.after_answer got.now taken self }
     {
         match got {
             Ok(Outcome::Frames(_)) => Round { taken, ..self },
+            Ok(Outcome::Done(done)) => {
+                let reached = done.clients.lists().first().map_or(0, |ids| ids.len());
+                Round { reached, ..self }
+            }
             _ => self,
         }
     }

@@ -1,5 +1,5 @@
 -- What comes of what a connection does.
-use Rattle.std.specs.Prelude.{◌≡◌, ◌++◌, ℕ, Bool, List, Option, None, Result, Ok, Err, cond}
+use Rattle.std.specs.Prelude.{◌≡◌, ◌++◌, ℕ, Bool, ◌||◌, List, Option, None, Result, Ok, Err, cond}
 use Rattle.std.specs.Box.{box_value}
 use Rattle.events.specs.Answer.{Answer}
 use Rattle.events.specs.declared.event.Event.{Event}
@@ -8,7 +8,7 @@ use Rattle.events.specs.declared.peer.PeerFault.{PeerFault}
 use Rattle.http_edge.specs.Reading.{IsRequestIn}
 use Rattle.http_edge.specs.SoFar.{fed}
 use Rattle.http_edge.specs.declared.error.EdgeError.{EdgeError}
-use Rattle.loop_rules.specs.Heard.{found_by, has_taken_all}
+use Rattle.loop_rules.specs.Heard.{found_by, has_taken_all, reads_on}
 use Rattle.loop_rules.specs.Link.{is_dry, is_full}
 use Rattle.loop_rules.specs.declared.link.Do.{Do}
 use Rattle.loop_rules.specs.declared.link.Do.TheVariants as what
@@ -22,6 +22,7 @@ use Rattle.peers.specs.Polling as polling
 use Rattle.peers.specs.Rounds as rounds
 use Rattle.peers.specs.Spoken as spoken
 use Rattle.peers.specs.declared.poll_stage.PollStage.{PollStage}
+use Rattle.tcp_loops.specs.Services.{skipped}
 use Rattle.tcp_loops.specs.declared.stream.Came.{Came}
 use Rattle.tcp_loops.specs.declared.stream.Came.TheVariants as came
 use Rattle.tcp_loops.specs.declared.service.Service.{Service}
@@ -81,6 +82,15 @@ module _ {R : Type 0} where
       (sent : Result (Unit {0}) PeerFault)
       × (((box_value p').stage, result) ≡ spoken.heard (heard.after (box_value p).stage got) sent)
   Hears got old result new = (result ≡ Ok tt) × (new ≡ old)
+
+-- what follows a message is passed over where all was taken, or where more was read
+abbrev pub passes_rest : (rests : Bool) → Link → (before : Seen) → Answer → Bool
+passes_rest rests l before got = has_taken_all rests got || reads_on before.unbrought l.left got
+
+module _ {R : Type 0} where
+  -- its peer has come as far as the table says, and then the rest of its round was passed over, or not
+  abbrev pub HearsOn : (passes : Bool) → Answer → (old new : Service R) → Type 0
+  HearsOn passes got old new = (heard : Service R) × Hears got old (Ok tt) heard × (new ≡ cond passes (skipped heard) heard)
 
 -- what an answer says of a look: whether all that came was brought counts as it was before the peer heard it
 abbrev pub found_of : (rests : Bool) → Link → (before after : Seen) → Answer → Found

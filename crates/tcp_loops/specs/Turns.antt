@@ -1,15 +1,15 @@
 -- Whose stint is next, and what a beat of a loop does.
-use Rattle.std.specs.Prelude.{◌≡◌, ◌-◌, ℕ, Bool, true, false, Option, None, Some, List, [], ◌∷◌, cond, nat_eq}
+use Rattle.std.specs.Prelude.{◌≡◌, ◌-◌, ℕ, Bool, true, false, not, ◌&&◌, Option, None, Some, List, [], ◌∷◌, cond, nat_eq}
 use Rattle.loop_rules.specs.Pressures.{known, pressed_at}
 use Rattle.loop_rules.specs.Rotas.{next_of}
 use Rattle.loop_rules.specs.declared.pressure.Pressure.{Pressure}
 use Rattle.loop_rules.specs.Rounds.{after_beat, is_beat}
 use Rattle.loop_rules.specs.declared.rounds.Round.{Round}
 
--- one whose stint goes on is next, and else the first that has something to do, while the round has stints left
-abbrev pub key_next : (active : List ℕ) → (stints : ℕ) → (ready : List ℕ) → Option ℕ
-key_next (key ∷ active) stints ready = Some key
-key_next [] stints ready = cond (nat_eq stints 0) None (next_of ready)
+-- one whose stint goes on is next, and else the first that has something to do, if one is to begin, and the round has stints left
+abbrev pub key_next : (active : List ℕ) → (begins : Bool) → (stints : ℕ) → (ready : List ℕ) → Option ℕ
+key_next (key ∷ active) begins stints ready = Some key
+key_next [] begins stints ready = cond (begins && not (nat_eq stints 0)) (next_of ready) None
 
 -- one that begins is one of the round's stints
 abbrev pub stints_after : (active : List ℕ) → (next : Option ℕ) → (stints : ℕ) → ℕ

@@ -110,6 +110,7 @@ impl<R: Wait + Clock + Copy + Drop, L: Log> Driver<'_, R, L> {
         ensures round { self.new.round ≡ record self.old.round {
           tells = self.new.round.tells;
           taken = self.new.round.taken;
+          reached = self.new.round.reached;
           gives_up = self.new.round.gives_up;
         } }
     {
@@ -128,7 +129,7 @@ impl<R: Wait + Clock + Copy + Drop, L: Log> Driver<'_, R, L> {
         let seen = self.connections.seen(key);
         self.round = self
             .round
-            .note_taken(got, seen.unsent.saturating_sub(before));
+            .note_answer(got, seen.unsent.saturating_sub(before));
         if let (Err(error), false) = (got, matches!(what, Do::Rest(_))) {
             let reason = Reason::of_core(error.fault);
             base.shared.counts.lock(base.rt).note_refused(reason);

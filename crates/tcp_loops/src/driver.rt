@@ -103,9 +103,9 @@ impl<'a, R: Wait + Clock + Copy + Drop, L: Log> Driver<'a, R, L> {
     }
 
     /// The next connection in its stint, for which the first one that is held is called, if it may
-    /// be read on now; none where the round's stints are over.
-    pub(crate) fn next(&mut self) -> Option<usize>
-        ensures key { result ≡ turns.key_next self.old.active.items self.old.round.stints
+    /// be read on now; none where the round's stints are over, or none is to begin.
+    pub(crate) fn next(&mut self, begins: bool) -> Option<usize>
+        ensures key { result ≡ turns.key_next self.old.active.items begins self.old.round.stints
             (called_if (all.next_held self.old.connections.links.receiving)
             self.old.connections.links.roster.rota).ready }
         ensures active { self.new.active.items ≡ others_of self.old.active.items }
@@ -115,6 +115,9 @@ impl<'a, R: Wait + Clock + Copy + Drop, L: Log> Driver<'a, R, L> {
         if let Some(key) = self.active.pop_front() {
             return Some(key);
         }
+        if !begins {
+            return None;
+        }
         if self.connections.links.receiving.next().is_some() {
             self.round.now = self.watch.now();
             self.connections.links.call_held(self.round.now);
@@ -123,7 +126,7 @@ impl<'a, R: Wait + Clock + Copy + Drop, L: Log> Driver<'a, R, L> {
             return None;
         }
         let key = self.connections.links.begin()?;
-        self.round.stints -= 1;
+        self.round = self.round.begin();
         Some(key)
     }
 

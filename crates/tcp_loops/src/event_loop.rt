@@ -2,6 +2,7 @@
 
 ghost use Rattle.std.specs.Prelude.{◌≡◌, ◌+◌, ◌<◌, ◌≤◌, false, None, IfOk, IsSome, OnSome};
 ghost use Rattle.loop_rules.specs.Holds as holds;
+ghost use Rattle.loop_rules.specs.Rounds as rounds;
 ghost use Rattle.tcp_loops.specs.Holding as holding;
 
 use crate::base::Base;
@@ -15,10 +16,6 @@ use tcp_streams::{Ears, Log};
 
 /// How many events the core gets under one hold of its lock, at the most.
 const EVENTS: usize = 32;
-
-/// How many of these bring packets, at the most: what one puts for others takes time under the
-/// lock.
-const SAYING: usize = 4;
 
 /// A loop over many connections. It gathers the events of all that have something to do, which the
 /// core gets under one hold of its lock, and then hears the answers.
@@ -94,25 +91,21 @@ impl<'a, R: Wait + Clock + Copy + Drop, L: Log> EventLoop<'a, R, L> {
         }
     }
 
-    /// Gathers what connections bring, one event of each, for the next hold of the lock.
+    /// Gathers what connections bring, one event of each, for the next hold of the lock. Those whose
+    /// stints go on come first, and while they bring packets others begin once a moment: so one
+    /// take has what many messages put for a client.
     fn gather(&mut self)
         ensures few { holding.saying_count self.new.hold.brought
-            ≤ holding.saying_count self.old.hold.brought + 4 }
+            ≤ holding.saying_count self.old.hold.brought
+            + rounds.speaking_of 32 self.old.driver.round }
         ensures asked { self.new.hold.asked ≡ self.old.hold.asked }
         ensures heard { self.new.hold.heard ≡ self.old.hold.heard }
     {
-        let (mut saying, mut left) = (SAYING, self.driver.round.together(EVENTS));
-        for _ in 0..u64::MAX {
-            if left == 0 || saying == 0 || self.hold.is_full() {
-                return;
-            }
-            let Some(key) = self.driver.next() else {
-                break;
-            };
-            if let Some(brought) = self.driver.drive(key) {
-                saying = self.add(brought, saying);
-                left -= 1;
-            }
+        let round = self.driver.round;
+        let room = (round.speaking(EVENTS), round.together(EVENTS));
+        let left = self.collect(room, false);
+        if self.driver.round.may_begin(left.0 < room.0) {
+            let _left = self.collect(left, true);
         }
         if self.hold.is_full() {
             return;
@@ -121,6 +114,30 @@ impl<'a, R: Wait + Clock + Copy + Drop, L: Log> EventLoop<'a, R, L> {
             let event = (Loss::new(client).event(), self.driver.round.now);
             self.hold.add(Origin::Loss { client }, event);
         }
+    }
+
+    /// Gathers events of connections whose stints go on, and then of others, if these may begin:
+    /// so many that bring packets, and so many together. Answers how many there may be yet.
+    fn collect(&mut self, room: (usize, usize), begins: bool) -> (usize, usize)
+        ensures saying { holding.saying_count self.new.hold.brought + result.0
+            ≡ holding.saying_count self.old.hold.brought + room.0 }
+        ensures asked { self.new.hold.asked ≡ self.old.hold.asked }
+        ensures heard { self.new.hold.heard ≡ self.old.hold.heard }
+    {
+        let (mut saying, mut left) = room;
+        for _ in 0..u64::MAX {
+            if left == 0 || saying == 0 || self.hold.is_full() {
+                break;
+            }
+            let Some(key) = self.driver.next(begins) else {
+                break;
+            };
+            if let Some(brought) = self.driver.drive(key) {
+                saying = self.add(brought, saying);
+                left -= 1;
+            }
+        }
+        (saying, left)
     }
 
     /// Adds an event, where so many may be added that bring packets. Answers how many may be yet.

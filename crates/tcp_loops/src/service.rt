@@ -1,6 +1,6 @@
 //! Who serves a connection.
 
-ghost use Rattle.std.specs.Prelude.{◌≡◌, ◌⊎◌, IfSome, Some, option_map, string_bytes};
+ghost use Rattle.std.specs.Prelude.{◌≡◌, ◌⊎◌, IfSome, Some, cond, option_map, string_bytes};
 ghost use Rattle.loop_rules.specs.Link.{is_full};
 ghost use Rattle.peers.specs.Responses.{plain_response};
 ghost use Rattle.tcp_streams.specs.Outputs.{waiting};
@@ -14,7 +14,7 @@ use crate::stream::{
 };
 use events::{Answered, Event, Peer, PeerFault};
 use http_edge::{Gathered, OnStream, Replay, Request, Target, write_response};
-use loop_rules::{Do, Found, Link, Pause, Seen, found_by, has_taken_all};
+use loop_rules::{Do, Found, Link, Pause, Seen, found_by, has_taken_all, reads_on};
 use page::File;
 use peers::{
     PollPeer, PollRequest, Response, SocketPeer, SocketRequest, accept_socket, response_to_target,
@@ -145,14 +145,16 @@ impl<'a, R: Clock + Drop> Service<'a, R> {
         ensures found { IfSome result (λ r. r.0 ≡ comes.found_of rests link
             (services.seen_of self.old) (services.seen_of self.new) got.now) }
         ensures full { IfSome result (λ r. r.1 ≡ is_full (services.seen_of self.new)) }
+        ensures rest { IfSome result (λ _. comes.HearsOn
+            (comes.passes_rest rests link (services.seen_of self.old) got.now)
+            got.now self.old self.new) }
     {
-        let is_dry = link.is_dry(self.seen());
+        let before = self.seen();
         self.answer(got).ok()?;
         let has_taken_all = has_taken_all(got, rests);
-        if has_taken_all {
-            self.skip_rest();
-        }
-        let seen = self.seen();
+        let reads_on = reads_on(got, before.unbrought, link.left);
+        self.skip_rest_if(has_taken_all | reads_on);
+        let (is_dry, seen) = (link.is_dry(before), self.seen());
         let found = found_by(got, seen.idle, has_taken_all, is_dry);
         Some((found, seen.is_full()))
     }
@@ -163,6 +165,14 @@ impl<'a, R: Clock + Drop> Service<'a, R> {
     {
         if let Service::Speaking(peer) = self {
             peer.skip_rest();
+        }
+    }
+
+    fn skip_rest_if(&mut self, skips: bool)
+        ensures { self.new ≡ cond skips (services.skipped self.old) self.old }
+    {
+        if skips {
+            self.skip_rest();
         }
     }
 

@@ -12,7 +12,8 @@ pub returns-in-Some-hear-clause-others : goal.returns-in-Some-hear-clause-others
 returns-in-Some-hear-clause-others g c = record {
   connections = search rules;
   links = λ k other.
-      let followed : link_at c.follow.new.self.links.items k ≡ link_at c.know.new.self.links.items k = search rules in
+      let followed : link_at c.follow.new.self.links.items k ≡ link_at c.know.new.self.links.items k =
+      ap (λ links. link_at links k) c.follow.ensures.links ∙ put_elsewhere _ k _ _ other in
       let known : link_at c.know.new.self.links.items k ≡ link_at c.hear_loss.new.self.links.items k = search rules in
       let heard : link_at c.hear_loss.new.self.links.items k ≡ link_at c.args.self.now.links.links.items k =
       ap (λ links. link_at links k) c.hear_loss.ensures.links ∙ put_elsewhere _ k _ _ other in
