@@ -1,5 +1,5 @@
 -- Whom the answer to an event of a connection concerns.
-use Rattle.std.specs.Prelude.{◌≡◌, ◌⊎◌, ◌<◌, ℕ, Bool, true, false, cond, Option, None, Some, List, [], length, slice_index_or}
+use Rattle.std.specs.Prelude.{◌≡◌, ◌⊎◌, ◌<◌, ℕ, true, cond, None, Some, List, [], length, slice_index_or}
 use Rattle.events.specs.Plain.{PlainDone}
 use Rattle.loop_rules.specs.Rosters.{AreTold, IsWoken}
 use Rattle.loop_rules.specs.Rotas.{Waiting, look_of, will_look}

@@ -1,9 +1,9 @@
 -- The connections of a loop as values, by their keys.
-use Rattle.std.specs.Prelude.{◌≡◌, ◌≢◌, ◌-◌, ℕ, Bool, true, false, Option, None, Some, cond, nat_lt, List, length, slice_index_or, slice_set}
+use Rattle.std.specs.Prelude.{◌≡◌, ◌≢◌, ◌-◌, ℕ, Bool, false, Option, None, Some, cond, nat_lt, List, length, slice_index_or, slice_set}
 use Rattle.events.specs.Answer.{Answer}
 use Rattle.events.specs.declared.event.Event.{Event}
 use Rattle.events.specs.declared.outcome.Outcome.TheVariants as outcome
-use Rattle.std.specs.Prelude.{Ok, Err}
+use Rattle.std.specs.Prelude.{Ok}
 use Rattle.loop_rules.specs.declared.looks.Decision.{Decision}
 use Rattle.loop_rules.specs.declared.looks.Decision.TheVariants as decision
 use Rattle.loop_rules.specs.declared.looks.Found.{Found}
@@ -14,7 +14,6 @@ use Rattle.loop_rules.specs.declared.pressure.Pressure.{Pressure}
 use Rattle.loop_rules.specs.declared.roster.Takers.{Takers}
 use Rattle.loop_rules.specs.Pressures.{holds}
 use Rattle.loop_rules.specs.Receiving.{has_room, limit_of, next_of, IsDone}
-use Rattle.loop_rules.specs.Rotas as rotas
 use Rattle.loop_rules.specs.Rotas.{Waiting, decision_at, followed_at}
 use Rattle.loop_rules.specs.Decisions.{left_after}
 use Rattle.loop_rules.specs.Takers.{is_taker, taker_of}

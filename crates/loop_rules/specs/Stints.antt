@@ -1,5 +1,5 @@
 -- What a connection does in its stint.
-use Rattle.std.specs.Prelude.{◌≡◌, ◌⊎◌, ◌<◌, ◌||◌, ℕ, Bool, true, false, Option, None, Some, cond, List, nat_lt}
+use Rattle.std.specs.Prelude.{◌≡◌, ◌⊎◌, ◌<◌, ◌||◌, ℕ, Bool, true, false, Option, Some, cond, List, nat_lt}
 use Rattle.loop_rules.specs.Paces.{allowance, WaitsUntil}
 use Rattle.loop_rules.specs.declared.looks.Pause.TheVariants as pause
 use Rattle.loop_rules.specs.declared.receiving.Receiving.{Receiving}

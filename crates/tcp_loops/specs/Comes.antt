@@ -9,13 +9,12 @@ use Rattle.http_edge.specs.Reading.{IsRequestIn}
 use Rattle.http_edge.specs.SoFar.{fed}
 use Rattle.http_edge.specs.declared.error.EdgeError.{EdgeError}
 use Rattle.loop_rules.specs.Heard.{found_by, has_taken_all, reads_on}
-use Rattle.loop_rules.specs.Link.{is_dry, is_full}
+use Rattle.loop_rules.specs.Link.{is_dry}
 use Rattle.loop_rules.specs.declared.link.Do.{Do}
 use Rattle.loop_rules.specs.declared.link.Do.TheVariants as what
 use Rattle.loop_rules.specs.declared.link.Link.{Link}
 use Rattle.loop_rules.specs.declared.link.Seen.{Seen}
 use Rattle.loop_rules.specs.declared.looks.Found.{Found}
-use Rattle.loop_rules.specs.declared.looks.Pause.{Pause}
 use Rattle.peers.specs.Heard as heard
 use Rattle.peers.specs.Polled.{event_of}
 use Rattle.peers.specs.Polling as polling

@@ -19,7 +19,6 @@ use Rattle.slab.specs.Slab.{get, slab_len}
 use Rattle.tcp_loops.specs.Services.{seen_of}
 use Rattle.tcp_loops.specs.declared.connections.Connection.{Connection}
 use Rattle.tcp_loops.specs.declared.connections.Connections.{Connections}
-use Rattle.tcp_loops.specs.declared.service.Service.{Service}
 
 module _ {R : Type 0} where
   abbrev pub count_of : Connections R → ℕ

@@ -1,5 +1,5 @@
 -- What goes out over a connection whose bytes can be named: over any but a WebSocket.
-use Rattle.std.specs.Prelude.{◌≡◌, ◌++◌, ℕ, Bool, true, false, List, [], Option, None, Some, cond, bytes_eq, codes, length, option_map, string_bytes}
+use Rattle.std.specs.Prelude.{◌≡◌, ◌++◌, ℕ, false, List, [], Option, Some, cond, bytes_eq, codes, length, option_map}
 use Rattle.std.specs.Box.{box_value}
 use Rattle.mio.specs.declared.net.stream.TcpStream.{TcpStream}
 use Rattle.http_edge.specs.Answer as http

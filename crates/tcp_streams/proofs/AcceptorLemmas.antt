@@ -1,5 +1,5 @@
 -- What becomes of a dealing while connections are accepted.
-use Rattle.std.proofs.Common.{◌≡◌, ◌∙◌, ℕ, ◌+◌, ◌-◌, ◌≤◌, ◌⊎◌, inl, inr, false, Option, None, Some, option_map, IfSome, nat_eq, refl, ap, arith}
+use Rattle.std.proofs.Common.{◌≡◌, ◌∙◌, ℕ, ◌+◌, ◌-◌, ◌≤◌, inl, inr, false, Option, None, Some, option_map, IfSome, nat_eq, refl, ap, arith}
 use Rattle.std.proofs.lemmas.Bool.Decides.{nat_tests}
 use Rattle.loop_rules.specs.declared.dealing.Dealing.{Dealing}
 use Rattle.loop_rules.specs.Dealings.{is_over}

@@ -1,5 +1,5 @@
 -- How a client ended, as the answer to its event says.
-use Rattle.std.specs.Prelude.{ℕ, Bool, true, false, Option, None, Some, option_map, Ok, Err, if◌then◌else◌}
+use Rattle.std.specs.Prelude.{Option, None, Some, option_map, Ok, Err, if◌then◌else◌}
 use Rattle.events.specs.declared.fault.CoreFault.{CoreFault}
 use Rattle.events.specs.declared.fault.CoreFault.TheVariants as fault
 use Rattle.events.specs.declared.outcome.Outcome.TheVariants as outcome

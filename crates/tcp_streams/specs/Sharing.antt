@@ -1,5 +1,5 @@
 -- What the threads of a server share.
-use Rattle.std.specs.Prelude.{◌≡◌, ℕ, ◌+◌, min, Bool, Option, is_some, vec_len}
+use Rattle.std.specs.Prelude.{◌≡◌, ◌+◌, min, Bool, Option, is_some, vec_len}
 use Rattle.std.specs.declared.alloc.Global.{Global}
 use Rattle.std.specs.declared.vec.Vec.{Vec}
 use Rattle.tcp_streams.specs.declared.shared.Backends.{Backends}

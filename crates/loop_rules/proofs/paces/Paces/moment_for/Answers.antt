@@ -1,4 +1,4 @@
-use Rattle.std.proofs.Common.{◌≡◌, ℕ, ◌+◌, ◌-◌, ◌*◌, ◌/◌, ◌%◌, ◌≤◌, ◌<◌, ◌∙◌, Some, true, false, min, subst, sym, rules}
+use Rattle.std.proofs.Common.{◌≡◌, ℕ, ◌+◌, ◌-◌, ◌*◌, ◌/◌, ◌%◌, ◌≤◌, ◌<◌, Some, true, false, min, subst, sym, rules}
 use Rattle.std.proofs.lemmas.Grind.{div_ceil_times}
 use Rattle.loop_rules.specs.Paces.{allowance, may_bring}
 use Rattle.loop_rules.proofs.PaceLemmas.{held_before, comes_at, first_is}
