@@ -1,13 +1,23 @@
 -- What a loop gathers for one hold of the core's lock.
-use Rattle.std.specs.Prelude.{ℕ, Bool, true, false, List, cond, sum_by}
+use Rattle.std.specs.Prelude.{ℕ, Bool, true, false, Option, None, Some, List, length, nat_lt, cond, sum_by}
 use Rattle.events.specs.declared.event.Event.{Event}
 use Rattle.events.specs.declared.event.Event.TheVariants as event
+use Rattle.peers.specs.Rounds.{message_length}
 
 -- an event brings packets
 abbrev pub says : Event → Bool
 says (event.Frame client frame) = true
 says (event.Post client body) = true
 says _ = false
+
+abbrev is_much : Option ℕ → Bool
+is_much None = false
+is_much (Some length) = nat_lt 16384 length
+
+-- more than 16 KiB of packets come together
+abbrev pub is_large : Event → Bool
+is_large (event.Post client body) = nat_lt 16384 (length body)
+is_large other = is_much (message_length other)
 
 -- how many of these events bring packets
 abbrev pub saying_count : {O : Type 0} → List (O × (Event × ℕ)) → ℕ

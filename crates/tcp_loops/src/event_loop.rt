@@ -1,6 +1,7 @@
 //! A loop that serves many connections: one peer, which brings the events of all of their clients.
 
 ghost use Rattle.std.specs.Prelude.{◌≡◌, ◌+◌, ◌<◌, ◌≤◌, false, None, IfOk, IsSome, OnSome};
+ghost use Rattle.std.specs.Bool.{OnTrue};
 ghost use Rattle.loop_rules.specs.Holds as holds;
 ghost use Rattle.loop_rules.specs.Rounds as rounds;
 ghost use Rattle.tcp_loops.specs.Holding as holding;
@@ -9,6 +10,7 @@ use crate::base::Base;
 use crate::driver::{Brought, Driver, Origin};
 use events::{Answered, Event, Loss};
 use loop_rules::Hold;
+use peers::message_length;
 use std::alloc::AllocError;
 use std::rt::Clock;
 use std::sync::Wait;
@@ -16,6 +18,10 @@ use tcp_streams::{Ears, Log};
 
 /// How many events the core gets under one hold of its lock, at the most.
 const EVENTS: usize = 32;
+
+/// A message of more bytes is the last one of its hold, so that others get the lock, and no loop
+/// has many of them at once.
+const LARGE: usize = 16_384;
 
 /// A loop over many connections. It gathers the events of all that have something to do, which the
 /// core gets under one hold of its lock, and then hears the answers.
@@ -30,6 +36,16 @@ fn says(event: &Event) -> bool
     ensures { result ≡ holding.says event.now }
 {
     matches!(event, Event::Frame { .. } | Event::Post { .. })
+}
+
+/// Whether an event brings so many bytes of packets.
+fn is_large(event: &Event) -> bool
+    ensures { result ≡ holding.is_large event.now }
+{
+    match event {
+        Event::Post { body, .. } => body.as_str().len() > LARGE,
+        _ => matches!(message_length(event), Some(length) if length > LARGE),
+    }
 }
 
 impl<'a, R: Wait + Clock + Copy + Drop, L: Log> EventLoop<'a, R, L> {
@@ -120,7 +136,7 @@ impl<'a, R: Wait + Clock + Copy + Drop, L: Log> EventLoop<'a, R, L> {
     /// so many that bring packets, and so many together. Answers how many there may be yet.
     fn collect(&mut self, room: (usize, usize), begins: bool) -> (usize, usize)
         ensures saying { holding.saying_count self.new.hold.brought + result.0
-            ≡ holding.saying_count self.old.hold.brought + room.0 }
+            ≤ holding.saying_count self.old.hold.brought + room.0 }
         ensures asked { self.new.hold.asked ≡ self.old.hold.asked }
         ensures heard { self.new.hold.heard ≡ self.old.hold.heard }
     {
@@ -140,17 +156,23 @@ impl<'a, R: Wait + Clock + Copy + Drop, L: Log> EventLoop<'a, R, L> {
         (saying, left)
     }
 
-    /// Adds an event, where so many may be added that bring packets. Answers how many may be yet.
+    /// Adds an event, where so many may be added that bring packets. Answers how many may be yet:
+    /// after a large one none.
     fn add(&mut self, brought: Brought, saying: usize) -> usize
         requires room { holds.is_full self.old.hold ≡ false }
         requires some { 0 < saying }
         ensures saying { holding.saying_count self.new.hold.brought + result
-            ≡ holding.saying_count self.old.hold.brought + saying }
+            ≤ holding.saying_count self.old.hold.brought + saying }
+        ensures large { OnTrue (holding.is_large brought.1) (result ≡ 0) }
         ensures asked { self.new.hold.asked ≡ self.old.hold.asked }
         ensures heard { self.new.hold.heard ≡ self.old.hold.heard }
     {
         let (of, event, moment) = brought;
-        let left = if says(&event) { saying - 1 } else { saying };
+        let left = match (says(&event), is_large(&event)) {
+            (_, true) => 0,
+            (true, _) => saying - 1,
+            _ => saying,
+        };
         self.hold.add(of, (event, moment));
         left
     }
