@@ -168,6 +168,7 @@ impl<'a, R: Clock + Drop> Service<'a, R> {
         }
     }
 
+    /// The same, if it is to be.
     fn skip_rest_if(&mut self, skips: bool)
         ensures { self.new ≡ cond skips (services.skipped self.old) self.old }
     {
