@@ -68,7 +68,10 @@ impl Links {
     pub fn link(&self, key: usize) -> Link
         ensures { result ≡ link_at self.now.links.items key }
     {
-        self.links.get(key).copied().unwrap_or(Link::over())
+        match self.links.get(key) {
+            Some(link) => *link,
+            None => Link::over(),
+        }
     }
 
     /// The connection with this key is so now.

@@ -1,3 +1,4 @@
 pub mod AcceptedLemmas
+pub mod ReadLemmas
 pub mod SentLemmas
 pub mod StageLemmas

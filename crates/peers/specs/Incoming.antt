@@ -1,47 +1,37 @@
 -- What a read of a WebSocket brings.
-use Rattle.std.specs.Prelude.{◌≡◌, ◌⊎◌, ℕ, Bool, true, false, List, [], length, Option, Some, Result, Ok, Err, if◌then◌else◌}
-use Rattle.std.specs.IoError.{error_kind}
-use Rattle.std.specs.declared.io.ErrorKind.{ErrorKind}
-use Rattle.std.specs.declared.io.ErrorKind.TheVariants as kind
-use Rattle.tungstenite.specs.declared.error.Error.{Error}
-use Rattle.tungstenite.specs.declared.error.Error.TheVariants as error
-use Rattle.tungstenite.specs.declared.message.Message.{Message}
-use Rattle.tungstenite.specs.declared.message.Message.TheVariants as message
-use Rattle.tungstenite.specs.Connection.{close_step}
-use Rattle.tungstenite.specs.Socket.{Socket, Reads, Flushed, Writes}
-use Rattle.websocket.specs.declared.error.ProtocolError.TheVariants as protocol
+use Rattle.std.specs.Prelude.{◌≡◌, ◌⊎◌, ◌++◌, ℕ, List, [], length, drop, Option, None, Some, Result, Ok, Err}
+use Rattle.std.specs.Io.KnownBytes.{Appends, Consumes, IsAtEnd, Keeps}
+use Rattle.websocket.specs.Connection.{Connection, Effect, Sends, close_step, failed_connection, read_step}
+use Rattle.websocket.specs.Content.{Content, text, binary, ping, pong, close}
+use Rattle.websocket.specs.View.{Leaves}
+use Rattle.websocket.specs.declared.error.Error.{Error}
+use Rattle.websocket.specs.declared.error.Error.TheVariants as error
+use Rattle.websocket.specs.declared.protocol.frame.codec.FrameStatus.{FrameStatus}
+use Rattle.websocket.specs.declared.protocol.frame.codec.FrameStatus.TheVariants as status
 use Rattle.websocket.specs.declared.protocol.frame.coding.CloseCode.TheVariants as code
 use Rattle.events.specs.declared.event.WsFrame.{WsFrame}
 use Rattle.events.specs.declared.event.WsFrame.TheVariants as frame
-use Rattle.events.specs.declared.peer.PeerFault.{PeerFault}
 use Rattle.events.specs.declared.peer.PeerFault.TheVariants as fault
-use Rattle.peers.specs.declared.socket_peer.Incoming.{Incoming}
-use Rattle.peers.specs.declared.socket_peer.Incoming.TheVariants as incoming
+use Rattle.peers.specs.FrameSocket.{Socket}
+use Rattle.peers.specs.declared.frame_socket.Incoming.{Incoming}
+use Rattle.peers.specs.declared.frame_socket.Incoming.TheVariants as incoming
 
 -- a copy was made of the message, or there was no memory for it, and then it is lost
 abbrev pub IsCopyOf : WsFrame → Incoming → Type 0
 IsCopyOf sent came = (came ≡ incoming.Frame sent) ⊎ (came ≡ incoming.Gone fault.Memory)
 
 -- a text and bytes are worked on; a close is the end of the stream
-abbrev pub IsReadAs : Message → Incoming → Type 0
-IsReadAs (message.Text text) came = IsCopyOf (frame.Text text) came
-IsReadAs (message.Binary bytes) came = IsCopyOf (frame.Bytes bytes) came
-IsReadAs (message.Ping bytes) came = came ≡ incoming.Control
-IsReadAs (message.Pong bytes) came = came ≡ incoming.Control
-IsReadAs (message.Close why) came = came ≡ incoming.Gone fault.Ended
+abbrev pub IsReadAs : Content → Incoming → Type 0
+IsReadAs (text t) came = IsCopyOf (frame.Text t) came
+IsReadAs (binary b) came = IsCopyOf (frame.Bytes b) came
+IsReadAs (ping bytes) came = came ≡ incoming.Control
+IsReadAs (pong bytes) came = came ≡ incoming.Control
+IsReadAs (close why) came = came ≡ incoming.Gone fault.Ended
 
-abbrev pub would_block : ErrorKind → Bool
-would_block kind.WouldBlock = true
-would_block _ = false
-
--- a stream that would have had to wait brings nothing; after any other failure, and after the end, nothing more is read
-abbrev pub of_error : Error → Incoming
-of_error (error.Io cause) = if would_block (error_kind cause) then incoming.Nothing else incoming.Gone fault.Device
-of_error error.OutOfMemory = incoming.Gone fault.Memory
-of_error error.ConnectionClosed = incoming.Gone fault.Ended
-of_error error.AlreadyClosed = incoming.Gone fault.Ended
-of_error (error.Protocol protocol.ResetWithoutClosingHandshake) = incoming.Gone fault.Ended
-of_error _ = incoming.Gone fault.Device
+-- a part of a message brings nothing until the last one has come
+abbrev pub IsBrought : Option Content → Incoming → Type 0
+IsBrought None came = came ≡ incoming.Control
+IsBrought (Some content) came = IsReadAs content came
 
 -- a message of as many bytes as are read, or there was no memory for it
 abbrev pub IsTooLong : Incoming → Type 0
@@ -49,40 +39,67 @@ IsTooLong came =
     ((bytes : List ℕ) × (length bytes ≡ 1048576) × (came ≡ incoming.Frame (frame.Bytes bytes)))
     ⊎ (came ≡ incoming.Gone fault.Memory)
 
--- in place of a message that is too long to be read comes one that is too long for the core
-abbrev pub IsFailureAs : Error → Incoming → Type 0
-IsFailureAs (error.Capacity why) came = IsTooLong came
-IsFailureAs e came = came ≡ of_error e
-
-abbrev pub IsHeardAs : Result Message Error → Incoming → Type 0
-IsHeardAs (Ok m) came = IsReadAs m came
-IsHeardAs (Err e) came = IsFailureAs e came
-
--- where the end was said, what was read is heard; else the peer has failed
-abbrev pub IsHeardAfter : Result (Unit {0}) PeerFault → Result Message Error → Incoming → Type 0
-IsHeardAfter (Ok _) gave came = IsHeardAs gave came
-IsHeardAfter (Err why) gave came = came ≡ incoming.Gone why
+-- after a failure, and after the end, nothing more is read
+abbrev pub of_error : Error → Incoming
+of_error error.OutOfMemory = incoming.Gone fault.Memory
+of_error error.ConnectionClosed = incoming.Gone fault.Ended
+of_error error.AlreadyClosed = incoming.Gone fault.Ended
+of_error _ = incoming.Gone fault.Device
 
 module _ {S : Type 0} (contents : S → Option (List ℕ)) where
-  -- the close of a message that is too big (RFC 6455, section 7.4.1: 1009) joined what waits, and of
-  -- that went out what the stream took; or there was no memory for it, or no place
-  abbrev pub ClosesAsTooBig : Socket S → Result (Unit {0}) PeerFault → Socket S → Type 0
-  ClosesAsTooBig old (Ok _) new = Writes contents old new (close_step old.conn (Some (code.Size, [])))
-  ClosesAsTooBig old (Err why) new = ((why ≡ fault.Memory) × (new ≡ old)) ⊎ (why ≡ fault.Device)
+  -- so the protocol goes on, and what it replies went out (sections 5.5.1 to 5.5.3)
+  pub record Replies (step : Result Effect Error) (old new : Socket S) : Type 0 where
+    pub reply : List ℕ
+    pub leaves : Leaves step new.conn [] reply
+    pub went : Appends (contents old.stream) (contents new.stream) reply
 
-  -- at a close what waits is flushed, as far as the stream takes it; after a message that is too long
-  -- the WebSocket is closed; else nothing is done
-  abbrev pub SaysEnd : Result Message Error → Socket S → Result (Unit {0}) PeerFault → Socket S → Type 0
-  SaysEnd (Ok (message.Close why)) old said new = (said ≡ Ok tt) × Flushed contents old new
-  SaysEnd (Err (error.Capacity why)) old said new = ClosesAsTooBig old said new
-  SaysEnd _ old said new = (said ≡ Ok tt) × (new ≡ old)
+  -- a whole frame is done, of which a message may come
+  abbrev pub IsDone : ℕ × Effect → Socket S → Incoming → Socket S → Type 0
+  IsDone p old came new = (new.input ≡ drop p.0 old.input)
+      × ((IsBrought p.1.message came × Replies (Ok p.1) old new) ⊎ (came ≡ incoming.Gone fault.Device))
+
+  -- in place of a message that is too long comes one that is too long for the core, and the WebSocket
+  -- is closed (section 7.4.1: 1009); or there was no memory for that, or the stream failed
+  abbrev pub ClosesAsTooBig : Socket S → Incoming → Socket S → Type 0
+  ClosesAsTooBig old came new =
+      (Replies (close_step old.conn (Some (code.Size, []))) old new × IsTooLong came)
+      ⊎ (came ≡ incoming.Gone fault.Memory) ⊎ (came ≡ incoming.Gone fault.Device)
+
+  -- what was read is no frame, or one that is refused: so the connection has failed (section 7.1.7)
+  abbrev pub IsRefused : Error → Socket S → Incoming → Socket S → Type 0
+  IsRefused (error.Capacity why) old came new = ClosesAsTooBig old came new
+  IsRefused e old came new = came ≡ of_error e
+
+  -- the frame that was read first is worked on, where it is whole
+  abbrev pub Works : Result (FrameStatus (ℕ × Effect)) Error → Socket S → Option Incoming → Socket S → Type 0
+  Works (Ok (status.Partial needed)) old came new = (came ≡ None) × (new ≡ old)
+  Works (Ok (status.Complete p)) old (Some came) new = IsDone p old came new
+  Works (Err e) old (Some came) new = IsRefused e (record old { conn = failed_connection old.conn }) came new
+  Works _ old None new = ⊥
+
+  -- or there was no memory for that
+  abbrev pub Steps : Socket S → Option Incoming → Socket S → Type 0
+  Steps old came new = Works (read_step old.conn old.input) old came new ⊎ (came ≡ Some (incoming.Gone fault.Memory))
+
+module _ {S : Type 0} (remaining : S → Option (List ℕ)) where
+  -- these bytes came from the stream, and nothing was done with them yet
+  pub record HasRead (got : List ℕ) (old new : Socket S) : Type 0 where
+    pub conn : new.conn ≡ old.conn
+    pub input : new.input ≡ old.input ++ got
+    pub taken : Consumes (remaining old.stream) (remaining new.stream) got
+
+  -- the stream gives no more for now, or has ended or failed, or there was no memory for what it gave
+  abbrev pub GivesNoMore : Socket S → Incoming → Socket S → Type 0
+  GivesNoMore old came new =
+      ((came ≡ incoming.Nothing) × HasRead [] old new)
+      ⊎ ((came ≡ incoming.Gone fault.Ended) × IsAtEnd (remaining new.stream))
+      ⊎ (came ≡ incoming.Gone fault.Device) ⊎ (came ≡ incoming.Gone fault.Memory)
 
 module _ {S : Type 0} (remaining contents : S → Option (List ℕ)) where
-  -- one read of the socket, and what it gave
+  -- of the bytes that came the first frame, or where none is whole, why no more came
   pub record Brings (old : Socket S) (came : Incoming) (new : Socket S) : Type 0 where
-    pub gave : Result Message Error
+    pub got : List ℕ
     pub between : Socket S
-    pub said : Result (Unit {0}) PeerFault
-    pub reads : Reads remaining old between gave
-    pub says : SaysEnd contents gave between said new
-    pub heard : IsHeardAfter said gave came
+    pub read : HasRead remaining got old between
+    pub brought : Steps contents between (Some came) new
+        ⊎ (Steps contents between None between × GivesNoMore remaining between came new)

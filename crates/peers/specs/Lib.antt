@@ -1,4 +1,5 @@
 pub mod Sent
+pub mod FrameSocket
 pub mod Responses
 pub mod Polling
 pub mod Polled

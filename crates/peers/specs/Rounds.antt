@@ -6,8 +6,8 @@ use Rattle.events.specs.declared.event.WsFrame.TheVariants as frame
 use Rattle.events.specs.declared.peer.PeerFault.{PeerFault}
 use Rattle.peers.specs.declared.socket_stage.SocketRequest.{SocketRequest}
 use Rattle.peers.specs.declared.socket_stage.SocketRequest.TheVariants as request
-use Rattle.peers.specs.declared.socket_peer.Incoming.{Incoming}
-use Rattle.peers.specs.declared.socket_peer.Incoming.TheVariants as incoming
+use Rattle.peers.specs.declared.frame_socket.Incoming.{Incoming}
+use Rattle.peers.specs.declared.frame_socket.Incoming.TheVariants as incoming
 use Rattle.peers.specs.declared.socket_stage.Phase.{Phase}
 use Rattle.peers.specs.declared.socket_stage.Phase.TheVariants as phase
 use Rattle.peers.specs.declared.socket_stage.SocketStage.{SocketStage}
@@ -24,7 +24,7 @@ reads _ = false
 
 -- ---- what comes next
 
--- a read that times out, a ping or a pong brings nothing; the first is nothing at all
+-- a read that finds nothing yet, a ping, a pong or a part of a message brings nothing; the first is nothing at all
 abbrev pub rests : Incoming → Option Bool
 rests incoming.Nothing = Some true
 rests incoming.Control = Some false

@@ -1,9 +1,8 @@
--- What one message adds to a WebSocket's output (RFC 6455, section 5.2).
-use Rattle.std.specs.Prelude.{ℕ, List, Option}
-use Rattle.std.specs.Io.KnownBytes.{Appends}
-use Rattle.tungstenite.specs.Connection.{whole_header, IsMaskOf}
-use Rattle.tungstenite.specs.Frame.{encode_frame}
-use Rattle.websocket.specs.declared.protocol.config.Role.{Role}
+-- What messages add to a WebSocket's output (RFC 6455, section 5.2).
+use Rattle.std.specs.Prelude.{ℕ, List, Option, None}
+use Rattle.std.specs.List.{flat_map}
+use Rattle.websocket.specs.Connection.{whole_header}
+use Rattle.websocket.specs.Frame.{encode_frame}
 use Rattle.websocket.specs.declared.protocol.frame.coding.OpCode.{OpCode}
 use Rattle.websocket.specs.declared.protocol.frame.coding.OpCode.TheVariants.{Data}
 use Rattle.websocket.specs.declared.protocol.frame.coding.Data.TheVariants as kind
@@ -18,8 +17,10 @@ abbrev pub payload_of : WsFrame → List ℕ
 payload_of (frame.Text t) = t
 payload_of (frame.Bytes b) = b
 
--- the output grew by just this one frame, under a mask of the role
-abbrev pub AddsFrame : Role → Option (List ℕ) → Option (List ℕ) → WsFrame → Type 0
-AddsFrame role before after sent =
-    (mask : Option (List ℕ)) × IsMaskOf role mask
-    × Appends before after (encode_frame (whole_header (opcode_of sent) mask) (payload_of sent))
+-- a server's message is one frame, which has no mask
+abbrev pub frame_bytes : WsFrame → List ℕ
+frame_bytes sent = encode_frame (whole_header (opcode_of sent) None) (payload_of sent)
+
+-- one frame after another
+abbrev pub bytes_of : List WsFrame → List ℕ
+bytes_of frames = flat_map frame_bytes frames

@@ -1,19 +1,15 @@
 -- What the calls of a peer do that serves one WebSocket.
-use Rattle.std.specs.Prelude.{◌≡◌, ◌⊎◌, ℕ, Bool, true, false, List, [], ◌∷◌, Option, Result, Ok, Err}
-use Rattle.tungstenite.specs.Socket.{Socket}
-use Rattle.websocket.specs.declared.protocol.config.Role.{Role}
+use Rattle.std.specs.Prelude.{◌≡◌, ℕ, Bool, true, false, List, Option, Result, Ok, Err}
 use Rattle.events.specs.declared.event.Event.{Event}
-use Rattle.events.specs.declared.event.WsFrame.{WsFrame}
 use Rattle.events.specs.Answer.{Answer}
 use Rattle.events.specs.declared.peer.PeerFault.{PeerFault}
-use Rattle.events.specs.declared.peer.PeerFault.TheVariants as fault
-use Rattle.peers.specs.declared.socket_peer.Incoming.{Incoming}
-use Rattle.peers.specs.declared.socket_peer.Incoming.TheVariants as incoming
+use Rattle.peers.specs.declared.frame_socket.Incoming.{Incoming}
+use Rattle.peers.specs.declared.frame_socket.Incoming.TheVariants as incoming
 use Rattle.peers.specs.declared.socket_stage.SocketStage.{SocketStage}
+use Rattle.peers.specs.FrameSocket.{Sends, Socket}
 use Rattle.peers.specs.Incoming.{Brings}
 use Rattle.peers.specs.Moments.{IsTimed}
 use Rattle.peers.specs.Polled.{event_of}
-use Rattle.peers.specs.Sent.{AddsFrame}
 use Rattle.peers.specs.Rounds.{reads, next_of}
 use Rattle.peers.specs.Heard.{after, to_send, unsent}
 
@@ -22,12 +18,6 @@ pub record Spoken (S M : Type 0) : Type 0 where
   pub stage : SocketStage
   pub socket : Socket S
   pub moments : M
-
--- the output grew by just these frames, one after another
-abbrev pub AddsFrames : Role → Option (List ℕ) → List WsFrame → Option (List ℕ) → Type 0
-AddsFrames role before [] after = after ≡ before
-AddsFrames role before (sent ∷ more) after =
-    (between : Option (List ℕ)) × AddsFrame role before between sent × AddsFrames role between more after
 
 -- a result, without the moment of its event
 abbrev pub untimed : Result (Option (Event × ℕ)) PeerFault → Result (Option Event) PeerFault
@@ -52,20 +42,6 @@ module _ {S M : Type 0} (remaining contents : S → Option (List ℕ)) (gives : 
     pub listens : Listens remaining contents (reads old.stage) old.socket came new.socket
     pub next : (new.stage, untimed result) ≡ next_of old.stage came
     pub timed : IsTimedResult gives result old.moments new.moments
-
-module _ {S : Type 0} (contents : S → Option (List ℕ)) where
-  -- all frames were sent, in their order, and nothing else has changed; where nothing waited in the
-  -- socket, just they were written, and nothing waits
-  abbrev pub SendsAll : List WsFrame → Socket S → Result (Unit {0}) PeerFault → Socket S → Type 0
-  SendsAll frames old (Ok _) new = (new.conn ≡ old.conn) × (new.input ≡ old.input) × (old.output ≡ []
-      → AddsFrames old.conn.role (contents old.stream) frames (contents new.stream) × (new.output ≡ []))
-  SendsAll frames old (Err why) new = (why ≡ fault.Memory) ⊎ (why ≡ fault.Device)
-
-  -- frames were sent; where there are none, nothing was done
-  pub record Sends (frames : List WsFrame) (old : Socket S) (result : Result (Unit {0}) PeerFault)
-      (new : Socket S) : Type 0 where
-    pub all : SendsAll frames old result new
-    pub none : frames ≡ [] → (result ≡ Ok tt) × (new ≡ old)
 
 -- the stage and the result, once what was to be sent was sent or not
 abbrev pub heard : SocketStage → Result (Unit {0}) PeerFault → SocketStage × Result (Unit {0}) PeerFault

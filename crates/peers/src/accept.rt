@@ -1,31 +1,15 @@
 //! The opening handshake (RFC 6455, section 4.2).
 
 ghost use Rattle.std.specs.Prelude.{IfSome};
-ghost use Rattle.peers.specs.Accepted.{Accepts, BeginsWith, HasLimit, HasMostBytes};
+ghost use Rattle.peers.specs.Accepted.{Accepts, BeginsWith};
 ghost use Rattle.tungstenite.specs.Heads.{Serves};
 
+use crate::frame_socket::FrameSocket;
 use http_edge::Replay;
 use std::alloc::Global;
 use std::io::{Read, Write};
 use tungstenite::handshake::server;
-use tungstenite::{NoCallback, NoMask, Role, WebSocket, WebSocketConfig};
-
-/// The longest message and the longest frame that are read, in bytes: longer than what the core
-/// refuses by itself.
-pub(crate) const LONGEST: usize = 1_048_576;
-
-/// How many bytes one read asks for. Two such buffers are kept for each socket.
-const READ_SIZE: usize = 1_024;
-
-/// How a WebSocket is read.
-pub(crate) fn config() -> WebSocketConfig
-    ensures { HasLimit 1048576 result }
-{
-    WebSocketConfig::default()
-        .read_buffer_size(READ_SIZE)
-        .max_message_size(Some(LONGEST))
-        .max_frame_size(Some(LONGEST))
-}
+use tungstenite::{NoCallback, NoMask, WebSocket};
 
 /// Who answers the request whose head a stream has first.
 trait Greeter<S> {
@@ -53,7 +37,7 @@ impl<S: Read + Write + Drop> Greeter<S> for Handshake {
     fn greet(self, alloc: Global, stream: Replay<S>) -> Option<WebSocket<Replay<S>, NoMask>>
         ensures { IfSome result Serves }
     {
-        server::start(alloc, stream, NoCallback, Some(config()))
+        server::start(alloc, stream, NoCallback, None)
             .handshake()
             .ok()
     }
@@ -67,15 +51,12 @@ fn accept_by<S: Drop, G: Greeter<S>>(
     stream: S,
     head: Vec<u8>,
     rest: Vec<u8>,
-) -> Option<WebSocket<Replay<S>, NoMask>>
-    ensures accepted { Accepts (G.gives greeter) head.items stream rest.items result }
-    ensures limits { IfSome result (λ socket. HasMostBytes 1048576 socket.conn.config) }
+) -> Option<FrameSocket<Replay<S>>>
+    ensures { Accepts (G.gives greeter) head.items stream rest.items result }
 {
     let replay = Replay::new(head, stream);
     let accepted = greeter.greet(alloc, replay)?;
-    let stream = accepted.into_inner();
-    let config = Some(config());
-    Some(WebSocket::from_partially_read(alloc, stream, NoMask, rest, Role::Server, config))
+    Some(FrameSocket::new(alloc, accepted.into_inner(), rest))
 }
 
 /// Answers the request whose head was read, and gives its WebSocket; else the stream is dropped. The
@@ -85,9 +66,8 @@ pub fn accept_socket<S: Read + Write + Drop>(
     stream: S,
     head: Vec<u8>,
     rest: Vec<u8>,
-) -> Option<WebSocket<Replay<S>, NoMask>>
-    ensures served { IfSome result (BeginsWith rest.items) }
-    ensures limits { IfSome result (λ socket. HasMostBytes 1048576 socket.conn.config) }
+) -> Option<FrameSocket<Replay<S>>>
+    ensures { IfSome result (BeginsWith rest.items) }
 {
     accept_by(alloc, Handshake, stream, head, rest)
 }

@@ -3,6 +3,7 @@
 #![tactic(auto)]
 
 mod accept;
+mod frame_socket;
 mod moments;
 mod poll_peer;
 mod poll_stage;
@@ -11,9 +12,10 @@ mod socket_peer;
 mod socket_stage;
 
 pub use accept::accept_socket;
+pub use frame_socket::FrameSocket;
 pub use moments::{Moments, is_noop, is_recent, served_from};
 pub use poll_peer::PollPeer;
 pub use poll_stage::PollRequest;
 pub use responses::{Response, response_to_fault, response_to_target};
-pub use socket_peer::{SocketPeer, send_bytes, send_text};
+pub use socket_peer::SocketPeer;
 pub use socket_stage::{SocketRequest, message_length};

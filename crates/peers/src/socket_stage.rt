@@ -7,7 +7,7 @@ ghost use Rattle.peers.specs.Responses.{socket_request};
 ghost use Rattle.peers.specs.Rounds as rounds;
 ghost use Rattle.peers.specs.Rounds.{with_event, without_fault};
 
-use crate::socket_peer::Incoming;
+use crate::frame_socket::Incoming;
 use events::{Answered, CoreFault, Event, Outcome, PeerFault, WsFrame};
 use http_edge::Target;
 

@@ -1,1 +1,2 @@
 pub mod ComesLemmas
+pub mod HoldingLemmas

@@ -1,6 +1,9 @@
 -- What comes of what a connection does.
 use Rattle.std.specs.Prelude.{◌≡◌, ◌++◌, ℕ, Bool, ◌||◌, List, Option, None, Result, Ok, Err, cond}
 use Rattle.std.specs.Box.{box_value}
+use Rattle.std.specs.declared.boxed.Box.{Box}
+use Rattle.std.specs.declared.alloc.Global.{Global}
+use Rattle.mio.specs.declared.net.stream.TcpStream.{TcpStream}
 use Rattle.events.specs.Answer.{Answer}
 use Rattle.events.specs.declared.event.Event.{Event}
 use Rattle.events.specs.declared.event.Event.TheVariants as event
@@ -8,6 +11,7 @@ use Rattle.events.specs.declared.peer.PeerFault.{PeerFault}
 use Rattle.http_edge.specs.Reading.{IsRequestIn}
 use Rattle.http_edge.specs.SoFar.{fed}
 use Rattle.http_edge.specs.declared.error.EdgeError.{EdgeError}
+use Rattle.http_edge.specs.declared.replay.Replay.{Replay}
 use Rattle.loop_rules.specs.Heard.{found_by, has_taken_all, reads_on}
 use Rattle.loop_rules.specs.Link.{is_dry}
 use Rattle.loop_rules.specs.declared.link.Do.{Do}
@@ -15,12 +19,13 @@ use Rattle.loop_rules.specs.declared.link.Do.TheVariants as what
 use Rattle.loop_rules.specs.declared.link.Link.{Link}
 use Rattle.loop_rules.specs.declared.link.Seen.{Seen}
 use Rattle.loop_rules.specs.declared.looks.Found.{Found}
-use Rattle.peers.specs.Heard as heard
 use Rattle.peers.specs.Polled.{event_of}
 use Rattle.peers.specs.Polling as polling
 use Rattle.peers.specs.Rounds as rounds
 use Rattle.peers.specs.Spoken as spoken
 use Rattle.peers.specs.declared.poll_stage.PollStage.{PollStage}
+use Rattle.tcp_streams.specs.Outputs.{held}
+use Rattle.tcp_streams.specs.declared.buffered.Buffered.{Buffered}
 use Rattle.tcp_loops.specs.Services.{skipped}
 use Rattle.tcp_loops.specs.declared.stream.Came.{Came}
 use Rattle.tcp_loops.specs.declared.stream.Came.TheVariants as came
@@ -74,12 +79,11 @@ module _ {R : Type 0} where
       (box_value p').stage (spoken.untimed result)
   Gives reads old result new = (result ≡ Ok None) × (new ≡ old)
 
-  -- its peer has come as far as the table says
+  -- its peer has come as far as the table says, and over a WebSocket waits what it is to be sent, behind what waited
   abbrev pub Hears : Answer → (old : Service R) → Result (Unit {0}) PeerFault → (new : Service R) → Type 0
   Hears got (service.Polling p) result (service.Polling p') = (box_value p').stage ≡ polling.after (box_value p).stage got
   Hears got (service.Speaking p) result (service.Speaking p') =
-      (sent : Result (Unit {0}) PeerFault)
-      × (((box_value p').stage, result) ≡ spoken.heard (heard.after (box_value p).stage got) sent)
+      spoken.Hears (λ (r : Replay (Box (Buffered TcpStream) Global)). held (box_value r.stream)) (box_value p) got result (box_value p')
   Hears got old result new = (result ≡ Ok tt) × (new ≡ old)
 
 -- what follows a message is passed over where all was taken, or where more was read

@@ -1,5 +1,5 @@
 -- What a loop gathers for one hold of the core's lock.
-use Rattle.std.specs.Prelude.{ℕ, Bool, true, false, Option, None, Some, List, length, nat_lt, cond, sum_by}
+use Rattle.std.specs.Prelude.{ℕ, ◌-◌, Bool, true, false, Option, None, Some, List, length, nat_lt, cond, sum_by}
 use Rattle.events.specs.declared.event.Event.{Event}
 use Rattle.events.specs.declared.event.Event.TheVariants as event
 use Rattle.peers.specs.Rounds.{message_length}
@@ -18,6 +18,10 @@ is_much (Some length) = nat_lt 16384 length
 abbrev pub is_large : Event → Bool
 is_large (event.Post client body) = nat_lt 16384 (length body)
 is_large other = is_much (message_length other)
+
+-- how many events that bring packets there may be yet behind one, of so many with it: after a large one none
+abbrev pub left_after : Event → (saying : ℕ) → ℕ
+left_after e saying = cond (is_large e) 0 (cond (says e) (saying - 1) saying)
 
 -- how many of these events bring packets
 abbrev pub saying_count : {O : Type 0} → List (O × (Event × ℕ)) → ℕ

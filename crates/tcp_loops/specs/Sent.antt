@@ -1,4 +1,4 @@
--- What goes out over a connection whose bytes can be named: over any but a WebSocket.
+-- What goes out over a connection.
 use Rattle.std.specs.Prelude.{◌≡◌, ◌++◌, ℕ, false, List, [], Option, Some, cond, bytes_eq, codes, length, option_map}
 use Rattle.std.specs.Box.{box_value}
 use Rattle.mio.specs.declared.net.stream.TcpStream.{TcpStream}

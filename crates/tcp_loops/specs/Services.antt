@@ -8,6 +8,7 @@ use Rattle.http_edge.specs.declared.routes.Target.{Target}
 use Rattle.loop_rules.specs.Heard.{left_unbrought}
 use Rattle.loop_rules.specs.Link.{seen_gone}
 use Rattle.loop_rules.specs.declared.link.Seen.{Seen}
+use Rattle.peers.specs.FrameSocket.{Socket}
 use Rattle.peers.specs.Polling as polling
 use Rattle.peers.specs.Responses.{poll_request, socket_request}
 use Rattle.peers.specs.Rounds as rounds
@@ -38,6 +39,11 @@ pub record SameBytes (old new : Buffered TcpStream) : Type 0 where
   pub waits : waiting new ≡ waiting old
   pub reads : reads_by new ≡ reads_by old
 
+-- a WebSocket has come as far as before, whatever became of its stream
+pub record OverStream {S : Type 0} (old new : Socket S) : Type 0 where
+  pub conn : new.conn ≡ old.conn
+  pub input : new.input ≡ old.input
+
 module _ {R : Type 0} where
   abbrev pub is_request : Service R → Bool
   is_request (service.Polling p) = true
@@ -62,22 +68,19 @@ module _ {R : Type 0} where
   seen_of (service.Answered s left) = record (seen_stream (box_value s)) { has_more = not (length left.now == 0) }
   seen_of service.Gone = seen_gone
 
-  -- its stream has become so, and who serves it is as far as before. What became of a WebSocket's stream is not known
+  -- its stream has become so, and who serves it is as far as before
   abbrev pub Turns : (Buffered TcpStream → Buffered TcpStream → Type 0) → (old new : Service R) → Type 0
   Turns P (service.Gathering s g) (service.Gathering s' g') = P (box_value s) (box_value s') × (g' ≡ g)
   Turns P (service.Polling p) (service.Polling p') =
       P (box_value (box_value p).wire.stream) (box_value (box_value p').wire.stream)
       × ((box_value p').stage ≡ (box_value p).stage) × ((box_value p').most ≡ (box_value p).most)
   Turns P (service.Speaking p) (service.Speaking p') =
-      ((box_value p').stage ≡ (box_value p).stage) × ((box_value p').moments ≡ (box_value p).moments)
+      P (box_value (box_value p).socket.stream.stream) (box_value (box_value p').socket.stream.stream)
+      × OverStream (box_value p).socket (box_value p').socket
+      × ((box_value p').stage ≡ (box_value p).stage) × ((box_value p').moments ≡ (box_value p).moments)
   Turns P (service.Answered s left) (service.Answered s' left') = P (box_value s) (box_value s') × (left' ≡ left)
   Turns P service.Gone service.Gone = Unit {0}
   Turns P _ _ = ⊥
-
-  -- buffers were given back, and where the memory for a WebSocket's new ones is refused, it is gone
-  abbrev pub GivesBack : (old new : Service R) → Type 0
-  GivesBack (service.Speaking p) service.Gone = Unit {0}
-  GivesBack old new = Turns SameBytes old new
 
   -- the rest of a WebSocket's round was passed over
   abbrev pub skipped : Service R → Service R

@@ -176,7 +176,9 @@ impl<R: Wait + Clock + Copy + Drop, L: Log> Driver<'_, R, L> {
             return;
         };
         links.note_answer(client, got, now);
-        let concern = concern_of(got, comes_over, links.is_taker(key));
+        // Where it takes is asked only of what was worked on.
+        let is_taker = matches!(got, Ok(Outcome::Done(_))) && links.is_taker(key);
+        let concern = concern_of(got, comes_over, is_taker);
         links.wake_for(self.number, base.rules.loops, got, &mut self.notes);
         links.heed(key, client, concern, now);
         self.notes.everyone |= concern.hides_whom();

@@ -311,11 +311,10 @@ impl<'a, R: Clock + Drop> Connections<'a, R> {
         ensures others { OnlyAt key self.old self.new }
         ensures takers { self.new.links.roster.takers ≡ self.old.links.roster.takers }
     {
-        let (alloc, is_socket) = (self.alloc, self.links.link(key).course.is_socket());
         let Some(connection) = self.slots.get_mut(key) else {
             return false;
         };
-        connection.service.give_back(alloc, is_socket);
+        connection.service.give_back();
         let seen = connection.service.seen();
         let what = self.links.keep_deadline(key, seen, cutting, now);
         self.obey(key, what)

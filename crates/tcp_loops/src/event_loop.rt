@@ -1,7 +1,6 @@
 //! A loop that serves many connections: one peer, which brings the events of all of their clients.
 
-ghost use Rattle.std.specs.Prelude.{◌≡◌, ◌+◌, ◌<◌, ◌≤◌, false, None, IfOk, IsSome, OnSome};
-ghost use Rattle.std.specs.Bool.{OnTrue};
+ghost use Rattle.std.specs.Prelude.{◌≡◌, ◌+◌, ◌<◌, ◌≤◌, ◌++◌, ◌∷◌, [], false, None, IfOk, IsSome, OnSome};
 ghost use Rattle.loop_rules.specs.Holds as holds;
 ghost use Rattle.loop_rules.specs.Rounds as rounds;
 ghost use Rattle.tcp_loops.specs.Holding as holding;
@@ -137,6 +136,7 @@ impl<'a, R: Wait + Clock + Copy + Drop, L: Log> EventLoop<'a, R, L> {
     fn collect(&mut self, room: (usize, usize), begins: bool) -> (usize, usize)
         ensures saying { holding.saying_count self.new.hold.brought + result.0
             ≤ holding.saying_count self.old.hold.brought + room.0 }
+        ensures none { room.0 ≡ 0 → self.new ≡ self.old }
         ensures asked { self.new.hold.asked ≡ self.old.hold.asked }
         ensures heard { self.new.hold.heard ≡ self.old.hold.heard }
     {
@@ -161,11 +161,10 @@ impl<'a, R: Wait + Clock + Copy + Drop, L: Log> EventLoop<'a, R, L> {
     fn add(&mut self, brought: Brought, saying: usize) -> usize
         requires room { holds.is_full self.old.hold ≡ false }
         requires some { 0 < saying }
-        ensures saying { holding.saying_count self.new.hold.brought + result
-            ≤ holding.saying_count self.old.hold.brought + saying }
-        ensures large { OnTrue (holding.is_large brought.1) (result ≡ 0) }
-        ensures asked { self.new.hold.asked ≡ self.old.hold.asked }
-        ensures heard { self.new.hold.heard ≡ self.old.hold.heard }
+        ensures added { self.new.hold ≡ record self.old.hold {
+          brought = self.old.hold.brought ++ (brought.0, (brought.1, brought.2)) ∷ [];
+        } }
+        ensures left { result ≡ holding.left_after brought.1 saying }
     {
         let (of, event, moment) = brought;
         let left = match (says(&event), is_large(&event)) {

@@ -25,7 +25,6 @@ use std::net::Shutdown;
 use std::rt::Clock;
 use std::{io, mem};
 use tcp_streams::{Rules, Stream};
-use tungstenite::{NoMask, WebSocket};
 
 /// Who serves a connection.
 #[derive(Drop)]
@@ -54,16 +53,6 @@ fn seen_stream(stream: &Stream) -> Seen
     }
 }
 
-/// Does this with the stream of a WebSocket; no clause of `tungstenite` says what becomes of it.
-fn with_stream<T, F: FnOnce(&mut Stream) -> T>(
-    socket: &mut WebSocket<Replay<Stream>, NoMask>,
-    act: F,
-) -> T
-    requires { F.IsAlwaysCallable act }
-{
-    act(socket.get_mut().get_mut())
-}
-
 impl<'a, R: Clock + Drop> Service<'a, R> {
     /// Whether it is a request over HTTP.
     pub(crate) fn is_request(&self) -> bool
@@ -86,7 +75,7 @@ impl<'a, R: Clock + Drop> Service<'a, R> {
                 idle: peer.is_idle(),
                 asks_due: peer.asks_due(),
                 has_read_nothing: peer.has_read_nothing(),
-                ..seen_stream(peer.socket().get_ref().get_ref())
+                ..seen_stream(peer.stream().get_ref())
             },
             Service::Answered { stream, rest } => Seen {
                 has_more: !rest.is_empty(),
@@ -103,10 +92,7 @@ impl<'a, R: Clock + Drop> Service<'a, R> {
         match self {
             Service::Gathering { stream, .. } => apply(stream, change),
             Service::Polling(peer) => apply(peer.wire_mut().get_mut(), change),
-            Service::Speaking(peer) => with_stream(
-                peer.socket_mut(),
-                |stream| apply(stream, change),
-            ),
+            Service::Speaking(peer) => apply(peer.stream_mut().get_mut(), change),
             Service::Answered { stream, .. } => apply(stream, change),
             Service::Gone => {}
         }
@@ -191,16 +177,15 @@ impl<'a, R: Clock + Drop> Service<'a, R> {
         let stream = match self {
             Service::Gathering { stream, .. } | Service::Answered { stream, .. } => stream,
             Service::Polling(peer) => peer.wire().get_ref(),
-            Service::Speaking(peer) => peer.socket().get_ref().get_ref(),
+            Service::Speaking(peer) => peer.stream().get_ref(),
             Service::Gone => return false,
         };
         stream.inner.shutdown(Shutdown::Write).is_ok()
     }
 
-    /// A beat has come: buffers are given back that nobody uses, and where a WebSocket is served
-    /// also those of its peer, of which nothing is unbrought, between two of its events.
-    pub(crate) fn give_back(&mut self, alloc: Global, is_socket: bool)
-        ensures { services.GivesBack self.old self.new }
+    /// A beat has come: buffers are given back that nobody uses.
+    pub(crate) fn give_back(&mut self)
+        ensures { services.Turns services.SameBytes self.old self.new }
     {
         match self {
             Service::Gathering { stream, .. } => {
@@ -213,27 +198,11 @@ impl<'a, R: Clock + Drop> Service<'a, R> {
                 let _ = peer.wire_mut().get_mut().give_back();
             }
             Service::Speaking(peer) => {
-                if with_stream(peer.socket_mut(), |stream| stream.give_back()) && is_socket {
-                    self.renew(alloc);
+                if peer.stream_mut().get_mut().give_back() {
+                    peer.give_back();
                 }
             }
             Service::Gone => {}
-        }
-    }
-
-    /// The peer of a WebSocket has new buffers.
-    fn renew(&mut self, alloc: Global)
-        ensures { services.GivesBack self.old self.new }
-    {
-        match mem::replace(self, Service::Gone) {
-            Service::Speaking(peer) => {
-                let peer = Box::into_inner(peer).renewed();
-                // Where the memory that was just given back is refused, the connection ends.
-                if let Ok(peer) = Box::new(alloc, peer) {
-                    *self = Service::Speaking(peer);
-                }
-            }
-            other => *self = other,
         }
     }
 
@@ -255,7 +224,7 @@ impl<'a, R: Clock + Drop> Service<'a, R> {
         match self {
             Service::Gathering { stream, .. } => stream.send(),
             Service::Polling(peer) => peer.wire_mut().get_mut().send(),
-            Service::Speaking(peer) => with_stream(peer.socket_mut(), |stream| stream.send()),
+            Service::Speaking(peer) => peer.stream_mut().get_mut().send(),
             Service::Answered { stream, rest } => send_file_on(stream, rest),
             Service::Gone => Err(io::Error::from(ErrorKind::NotConnected)),
         }
@@ -279,10 +248,7 @@ impl<'a, R: Clock + Drop> Service<'a, R> {
         match self {
             Service::Gathering { stream, .. } => drain(stream.as_mut()),
             Service::Polling(peer) => drain(peer.wire_mut().get_mut().as_mut()),
-            Service::Speaking(peer) => with_stream(
-                peer.socket_mut(),
-                |stream| drain(stream.as_mut()),
-            ),
+            Service::Speaking(peer) => drain(peer.stream_mut().get_mut().as_mut()),
             Service::Answered { stream, .. } => drain(stream.as_mut()),
             Service::Gone => None,
         }
@@ -367,7 +333,7 @@ impl<'a, R: Clock + Drop> Service<'a, R> {
         stream.unbrought = request.rest.len();
         if let Some(wanted) = SocketRequest::of(target) {
             let socket = accept_socket(alloc, stream, request.head, request.rest)?;
-            let peer = SocketPeer::new(alloc, socket, watch, wanted);
+            let peer = SocketPeer::new(socket, watch, wanted);
             return match Box::new(alloc, peer) {
                 Ok(peer) => Some(Service::Speaking(peer)),
                 Err(_) => None,

@@ -5,11 +5,10 @@ use crate::edge::served::serve;
 use crate::edge::spoken::{Piece, Spoken};
 use events::Event;
 use http_edge::Replay;
-use peers::{SocketPeer, SocketRequest, accept_socket};
+use peers::{FrameSocket, SocketPeer, SocketRequest, accept_socket};
 use relay::RelayApp;
 use std::alloc::{AllocError, Global};
 use std::sync::ledger::Ledger;
-use tungstenite::{NoMask, Role, WebSocket};
 use usual_core::{OnCore, UsualCore, UsualSettings, on_new_core};
 
 /// One whose head was read before.
@@ -17,7 +16,7 @@ type Accepted = SocketPeer<Replay<Spoken>, Still>;
 
 /// What the reads of a WebSocket give: a client's frames, masked by zeros, one of them in two
 /// pieces.
-static PIECES: [(&str, Piece); 12] = [
+static PIECES: [(&str, Piece); 14] = [
     ("connect", Piece::Bytes(b"\x81\x82\0\0\0\x0040")),
     ("probes", Piece::Bytes(b"\x81\x86\0\0\0\x002probe")),
     ("upgrades", Piece::Bytes(b"\x81\x81\0\0\0\x005")),
@@ -26,6 +25,8 @@ static PIECES: [(&str, Piece); 12] = [
     ("close", Piece::Bytes(b"\x88\x80\0\0\0\0")),
     ("says", Piece::Bytes(b"\x81\x8e\x00\x00\x00\x0042[")),
     ("more", Piece::Bytes(b"\"all\",\"hi\"]")),
+    ("begins", Piece::Bytes(b"\x01\x84\0\0\0\x0042[\"")),
+    ("ends", Piece::Bytes(b"\x80\x8a\0\0\0\0all\",\"hi\"]")),
     (
         "header",
         Piece::Bytes(b"\x81\xa9\x00\x00\x00\x00451-[\"all\",{\"_placeholder\":true,\"num\":0}]"),
@@ -80,6 +81,12 @@ static CASES: &str = "\
 # Frames of two entries in their order, one that came in two pieces; a ping, a pong, a close.
 open 1000 1000: connect says wait more ping pong header attached close
 = Failed(Ended) Some(Polling) idle:false opened connected said ponged said-second binary closed
+# A message in two frames, between which a ping comes.
+open 1000 1000: connect begins ping ends close
+= Failed(Ended) Some(Polling) idle:false opened connected ponged said closed
+# The second frame of a message in two never comes.
+open 1000 1000: connect begins begins
+= Failed(Device) Some(Polling) idle:false opened connected
 # A write that fails between two frames of one take.
 open 270 1000: connect header attached connect
 = Failed(Device) Some(Polling) idle:false opened connected said-first
@@ -208,12 +215,12 @@ fn write_served<C: Ledger, T: Ledger>(
     let room = numbers.next().unwrap_or("").parse().unwrap_or(0);
     let events = numbers.next().unwrap_or("").parse().unwrap_or(0);
     let stream = Spoken::new(alloc, pieces_of(alloc, words)?, room);
-    let socket = WebSocket::from_raw_socket(alloc, stream, NoMask, Role::Server, None);
-    let mut peer = SocketPeer::new(alloc, socket, Still, request);
+    let socket = FrameSocket::new(alloc, stream, Vec::new(alloc));
+    let mut peer = SocketPeer::new(socket, Still, request);
     let end = serve(alloc, usual, &mut peer, events);
     let (on, idle) = (usual.core.transport(1), peer.is_idle());
     write!(text, "= {end:?} {on:?} idle:{idle}")?;
-    write_frames(text, peer.socket_mut().get_mut().written.as_slice())?;
+    write_frames(text, peer.stream_mut().written.as_slice())?;
     text.push('\n')
 }
 
@@ -279,7 +286,7 @@ fn goes(alloc: Global, case: &'static str) -> bool {
 
 #[test]
 fn clients_of_websockets(rt: HostRuntime) {
-    assert!(rt; CASES.split('#').count() == 23);
+    assert!(rt; CASES.split('#').count() == 25);
     for case in CASES.split('#').filter(|case| !case.is_empty()) {
         assert!(rt;
             goes(rt.alloc(), case),
@@ -307,7 +314,7 @@ fn accepted(alloc: Global, head: &[u8], rest: Vec<u8>, words: &str) -> Option<Ac
     let stream = Spoken::new(alloc, pieces_of(alloc, words).ok()?, 1_000);
     let head = Vec::from_slice(alloc, head).ok()?;
     let socket = accept_socket(alloc, stream, head, rest)?;
-    Some(SocketPeer::new(alloc, socket, Still, SocketRequest::Open))
+    Some(SocketPeer::new(socket, Still, SocketRequest::Open))
 }
 
 /// Serves a client whose first frame came with its head, beside one that polls.
@@ -329,7 +336,7 @@ impl OnCore for ComesEarly {
         let rest = Vec::from_slice(alloc, FRAME).ok()?;
         let mut peer = accepted(alloc, self.head, rest, "close")?;
         let end = serve(alloc, usual, &mut peer, 1_000);
-        let written = peer.socket_mut().get_mut().get_mut().written.as_slice();
+        let written = peer.stream_mut().get_mut().written.as_slice();
         let mut text = format!(in alloc; "{end:?}").ok()?;
         write_frames(&mut text, written.strip_prefix(SWITCHES).unwrap_or(&[])).ok()?;
         Some(is_open && text.as_str() == "Failed(Ended) opened connected closed")

@@ -1,8 +1,8 @@
 use Rattle.std.proofs.Common.{rules}
 use Rattle.peers.proofs.accept.accept_by.Goals as goal
 
-pub returns-in_err-accepted-clause-accepted : goal.returns-in_err-accepted-clause-accepted
-returns-in_err-accepted-clause-accepted g c =
+pub returns-in_err-accepted : goal.returns-in_err-accepted
+returns-in_err-accepted g c =
     record {
       replay = c.new-replay.result;
       replays = record { bytes = search rules; start = c.new-replay.ensures.unread; behind = c.new-replay.ensures.stream };
@@ -11,8 +11,8 @@ returns-in_err-accepted-clause-accepted g c =
       follows = search rules;
     }
 
-pub returns-clause-accepted : goal.returns-clause-accepted
-returns-clause-accepted g c =
+pub returns : goal.returns
+returns g c =
     record {
       replay = c.new-replay.result;
       replays = record { bytes = search rules; start = c.new-replay.ensures.unread; behind = c.new-replay.ensures.stream };

@@ -1,12 +1,10 @@
-use Rattle.std.proofs.Common.{◌≡◌, [], map, drop, Option, List, ℕ}
-use Rattle.events.specs.declared.event.WsFrame.TheVariants.{Bytes}
-use Rattle.events.specs.Frames.{frames_of}
-use Rattle.peers.specs.Spoken.{AddsFrames}
+use Rattle.std.proofs.Common.{◌∷◌, ◌++◌, codes, map, take}
+use Rattle.events.specs.declared.event.WsFrame.TheVariants.{Bytes, Text}
+use Rattle.peers.specs.FrameSocket.{Sent}
+use Rattle.peers.specs.Sent.{bytes_of}
 use Rattle.peers.proofs.socket_peer.send_entry.Given as goal
 
--- what is sent from here on completes what was sent so far
+-- the text and the attachments so far were sent
 abbrev pub invariant-loop-attachment : goal.invariant-loop-attachment
-invariant-loop-attachment g l = (l.socket.conn ≡ l.fn.socket.conn) × (l.socket.input ≡ l.fn.socket.input)
-    × (l.fn.socket.output ≡ [] → (l.socket.output ≡ [])
-    × ((after : Option (List ℕ)) → AddsFrames l.fn.socket.conn.role (g.S.Write.contents l.socket.stream) (map Bytes (drop l.attachment-index l.attachment-items)) after
-    → AddsFrames l.fn.socket.conn.role (g.S.Write.contents l.fn.socket.stream) (frames_of l.entry) after))
+invariant-loop-attachment g l =
+    Sent g.S.Write.contents (bytes_of (Text (codes "4" ++ l.entry.text) ∷ map Bytes (take l.attachment-index l.attachment-items))) l.fn.socket l.socket

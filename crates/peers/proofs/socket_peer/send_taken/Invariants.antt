@@ -1,14 +1,12 @@
-use Rattle.std.proofs.Common.{◌≡◌, [], map, drop, Option, List, ℕ}
+use Rattle.std.proofs.Common.{◌≡◌, [], map, take}
 use Rattle.std.specs.Arc.{arc_value}
-use Rattle.std.specs.List.{flat_map}
-use Rattle.events.specs.Frames.{frames_of}
-use Rattle.peers.specs.Spoken.{AddsFrames}
+use Rattle.events.specs.Frames.{frames_taken}
+use Rattle.peers.specs.FrameSocket.{Sent}
+use Rattle.peers.specs.Sent.{bytes_of}
 use Rattle.peers.proofs.socket_peer.send_taken.Given as goal
 
--- what is sent from here on completes what was sent so far
+-- a ping, where one is due, and the entries so far were sent; where there is nothing, nothing was done
 abbrev pub invariant-loop-entry : goal.invariant-loop-entry
-invariant-loop-entry g l = (l.socket.conn ≡ l.fn.socket.conn) × (l.socket.input ≡ l.fn.socket.input)
+invariant-loop-entry g l =
+    Sent g.S.Write.contents (bytes_of (frames_taken l.ping (map arc_value (take l.entry-index l.entries)))) l.fn.socket l.socket
     × (l.frames.list ≡ [] → l.socket ≡ l.fn.socket)
-    × (l.fn.socket.output ≡ [] → (l.socket.output ≡ [])
-    × ((after : Option (List ℕ)) → AddsFrames l.fn.socket.conn.role (g.S.Write.contents l.socket.stream) (flat_map frames_of (map arc_value (drop l.entry-index l.entries))) after
-    → AddsFrames l.fn.socket.conn.role (g.S.Write.contents l.fn.socket.stream) l.frames.list after))

@@ -8,4 +8,5 @@ invariant-loop g l = record {
   few : saying_count l.self.hold.brought + l.saying ≤ saying_count l.initial.self.hold.brought + l.initial.saying;
   asked : l.self.hold.asked ≡ l.initial.self.hold.asked;
   heard : l.self.hold.heard ≡ l.initial.self.hold.heard;
+  none : l.initial.saying ≡ 0 → (l.saying ≡ 0) × (l.self ≡ l.initial.self);
 }
