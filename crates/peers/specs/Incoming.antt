@@ -47,23 +47,21 @@ of_error error.AlreadyClosed = incoming.Gone fault.Ended
 of_error _ = incoming.Gone fault.Device
 
 module _ {S : Type 0} (contents : S → Option (List ℕ)) where
-  -- so the protocol goes on, and what it replies went out (sections 5.5.1 to 5.5.3)
-  pub record Replies (step : Result Effect Error) (old new : Socket S) : Type 0 where
+  -- so the protocol goes on: what it replies went out (sections 5.5.1 to 5.5.3), and this is brought; or the stream has failed
+  pub record Replies (step : Result Effect Error) (old : Socket S) (brings : Incoming → Type 0) (came : Incoming) (new : Socket S) : Type 0 where
     pub reply : List ℕ
     pub leaves : Leaves step new.conn [] reply
-    pub went : Appends (contents old.stream) (contents new.stream) reply
+    pub outcome : (Appends (contents old.stream) (contents new.stream) reply × brings came) ⊎ (came ≡ incoming.Gone fault.Device)
 
   -- a whole frame is done, of which a message may come
   abbrev pub IsDone : ℕ × Effect → Socket S → Incoming → Socket S → Type 0
-  IsDone p old came new = (new.input ≡ drop p.0 old.input)
-      × ((IsBrought p.1.message came × Replies (Ok p.1) old new) ⊎ (came ≡ incoming.Gone fault.Device))
+  IsDone p old came new = (new.input ≡ drop p.0 old.input) × Replies (Ok p.1) old (IsBrought p.1.message) came new
 
   -- in place of a message that is too long comes one that is too long for the core, and the WebSocket
-  -- is closed (section 7.4.1: 1009); or there was no memory for that, or the stream failed
+  -- is closed (section 7.4.1: 1009), or there was no memory for that
   abbrev pub ClosesAsTooBig : Socket S → Incoming → Socket S → Type 0
   ClosesAsTooBig old came new =
-      (Replies (close_step old.conn (Some (code.Size, []))) old new × IsTooLong came)
-      ⊎ (came ≡ incoming.Gone fault.Memory) ⊎ (came ≡ incoming.Gone fault.Device)
+      Replies (close_step old.conn (Some (code.Size, []))) old IsTooLong came new ⊎ (came ≡ incoming.Gone fault.Memory)
 
   -- what was read is no frame, or one that is refused: so the connection has failed (section 7.1.7)
   abbrev pub IsRefused : Error → Socket S → Incoming → Socket S → Type 0

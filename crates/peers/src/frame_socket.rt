@@ -148,7 +148,7 @@ impl<S> FrameSocket<S> {
     }
 
     /// Whether all that was read was brought.
-    fn has_read_nothing(&self) -> bool
+    fn has_no_input(&self) -> bool
         ensures { IsTrue result ↔ (self.now.input ≡ []) }
     {
         self.input.is_empty()
@@ -225,7 +225,7 @@ impl<S: Write> FrameSocket<S> {
     fn take_frame(&mut self) -> Option<Incoming>
         ensures { Steps S.contents self.old result self.new }
     {
-        if self.has_read_nothing() && self.context.can_read() {
+        if self.has_no_input() && self.context.can_read() {
             return None;
         }
         self.output.clear();

@@ -102,12 +102,12 @@ open 1000 1000: fail
 #
 open 1000 1000:
 = Failed(Ended) Some(Polling) idle:false opened
-# One turn that brings nothing, and one that brings a ping.
+# One turn that brings nothing, and one that brings a ping, which is answered at once.
 open 1000 3: wait
 = Spent Some(Polling) idle:true opened
 #
 open 1000 3: ping
-= Spent Some(Polling) idle:false opened
+= Spent Some(Polling) idle:false opened ponged
 # A client comes over.
 1 1000 1000: wait probes ping wait upgrades connect
 = Failed(Ended) Some(Socket) idle:false probed ponged came-over
