@@ -1,5 +1,5 @@
 -- Bytes that come, and frames that are whole.
-use Rattle.std.proofs.Common.{◌≡◌, inl, inr, ℕ, List, [], ◌++◌, Option, None, Some, Ok, Err, Result, true, refl, sym, ap, subst, ◌∙◌, append_assoc, append-nil}
+use Rattle.std.proofs.Common.{◌≡◌, inl, inr, ℕ, List, [], ◌++◌, Option, None, Ok, Err, Result, true, refl, sym, ap, subst, ◌∙◌, append_assoc, append-nil}
 use Rattle.tungstenite.proofs.SocketLemmas.{consumes-nil, consumes-chain}
 use Rattle.websocket.specs.Connection.{Connection, Effect, can_read, check_open, read_step}
 use Rattle.websocket.specs.Frame.{decode_frame}

@@ -1,7 +1,7 @@
 -- What a read of a WebSocket brings.
 use Rattle.std.specs.Prelude.{◌≡◌, ◌⊎◌, ◌++◌, ℕ, List, [], length, drop, Option, None, Some, Result, Ok, Err}
-use Rattle.std.specs.Io.KnownBytes.{Appends, Consumes, IsAtEnd, Keeps}
-use Rattle.websocket.specs.Connection.{Connection, Effect, Sends, close_step, failed_connection, read_step}
+use Rattle.std.specs.Io.KnownBytes.{Appends, Consumes, IsAtEnd}
+use Rattle.websocket.specs.Connection.{Effect, close_step, failed_connection, read_step}
 use Rattle.websocket.specs.Content.{Content, text, binary, ping, pong, close}
 use Rattle.websocket.specs.View.{Leaves}
 use Rattle.websocket.specs.declared.error.Error.{Error}

@@ -1,5 +1,5 @@
 -- What messages add to a WebSocket's output (RFC 6455, section 5.2).
-use Rattle.std.specs.Prelude.{ℕ, List, Option, None}
+use Rattle.std.specs.Prelude.{ℕ, List, None}
 use Rattle.std.specs.List.{flat_map}
 use Rattle.websocket.specs.Connection.{whole_header}
 use Rattle.websocket.specs.Frame.{encode_frame}

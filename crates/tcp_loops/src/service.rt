@@ -1,6 +1,6 @@
 //! Who serves a connection.
 
-ghost use Rattle.std.specs.Prelude.{◌≡◌, ◌⊎◌, IfSome, Some, cond, option_map, string_bytes};
+ghost use Rattle.std.specs.Prelude.{◌≡◌, IfSome, Some, cond, option_map, string_bytes};
 ghost use Rattle.loop_rules.specs.Link.{is_full};
 ghost use Rattle.peers.specs.Responses.{plain_response};
 ghost use Rattle.tcp_streams.specs.Outputs.{waiting};

@@ -1,4 +1,4 @@
-use Rattle.std.proofs.Common.{inl, inr, ◌≡◌, [], ◌++◌, None, refl, sym, subst}
+use Rattle.std.proofs.Common.{inl, inr, [], ◌++◌, None, refl, sym, subst}
 use Rattle.peers.specs.FrameSocket.{Socket}
 use Rattle.peers.specs.Incoming.{HasRead, GivesNoMore, Steps}
 use Rattle.peers.proofs.ReadLemmas.{read-more, read-none, same-without-frame}

@@ -1,4 +1,4 @@
-use Rattle.std.proofs.Common.{rules, ◌≡◌, ◌∙◌, [], true, ap, sym}
+use Rattle.std.proofs.Common.{rules, ◌∙◌, ap, sym}
 use Rattle.websocket.specs.Connection.{can_read}
 use Rattle.peers.specs.FrameSocket.{Socket}
 use Rattle.peers.proofs.ReadLemmas.{no-frame-of-nothing}
