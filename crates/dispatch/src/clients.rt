@@ -16,7 +16,7 @@ ghost use Rattle.dispatch.specs.Upkeep.{Ticks, Sweeps};
 
 use crate::commands;
 use crate::packets::handle_each;
-use crate::polling::{Taken, count, fitting, outbox_of};
+use crate::polling::{Taken, fitting, outbox_of, take_entries};
 use crate::scene::{Call, Scene, Tally, Visit};
 use connection::{Due, Line, Timing, Transport};
 use eio_wire::{Numbers, Packet, WireError, open_text, read_packet};
@@ -196,8 +196,7 @@ pub(crate) fn receive<A: App, I: IdSource>(
     }
 }
 
-/// Takes the frames of as many entries as a take hands out, or says that there is nothing. There is
-/// memory for them before the entries are taken.
+/// Takes the frames of as many entries as a take hands out, or says that there is nothing.
 fn take_waiting(visit: Visit, state: &mut State, line: &mut Line, most: usize, ping: bool) -> Taken
     requires { is_open state.old.base state.old.journal visit.client ≡ true }
     ensures { SendsWaiting ping visit.client most visit.moment result
@@ -208,9 +207,8 @@ fn take_waiting(visit: Visit, state: &mut State, line: &mut Line, most: usize, p
     if number == 0 && !ping {
         return Ok(Outcome::Nothing);
     }
-    let entries = outbox.share_first(visit.alloc, number)?;
     let more = number < outbox.len();
-    count(visit, state, line, number, ping)?;
+    let entries = take_entries(visit, state, line, number, ping)?;
     Ok(Outcome::Frames(Frames::new(ping, entries, more)))
 }
 

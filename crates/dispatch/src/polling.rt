@@ -2,7 +2,8 @@
 //! and how it comes to speak over a WebSocket (Engine.IO protocol 4, "HTTP long-polling", "Heartbeat"
 //! and "Upgrade").
 
-ghost use Rattle.std.specs.Prelude.{◌≡◌, ◌<◌, ◌++◌, true, length, take, All, Ok, Err, IfOk, IfErr, OnOk};
+ghost use Rattle.std.specs.Prelude.{◌≡◌, ◌<◌, ◌++◌, true, length, map, take, All, Ok, Err, IfOk, IfErr, OnOk};
+ghost use Rattle.std.specs.Arc.{arc_value};
 ghost use Rattle.eio_wire.specs.Payload.{Payload, HasWholeData};
 ghost use Rattle.journal.specs.Journal.{History};
 ghost use Rattle.journal.specs.Membership.{is_open};
@@ -14,17 +15,18 @@ ghost use Rattle.dispatch.specs.Commands.{Makes, StopsAt};
 ghost use Rattle.dispatch.specs.Holding.{holding, standing, Agree, IsClean};
 ghost use Rattle.dispatch.specs.Machine.{Begins, Ends, Takes, PostsFor};
 ghost use Rattle.dispatch.specs.Scene.{visit_of};
-ghost use Rattle.dispatch.specs.Takes.{IsFitting, packets_of, carried, TellsNoop, ping_calls, TakesWaiting, TakesFor};
+ghost use Rattle.dispatch.specs.Takes.{IsFitting, packets_of, carried, handed, TellsNoop, ping_calls, TakesWaiting, TakesFor};
 ghost use Rattle.dispatch.specs.Upgrade.{fault_of_clock, Probes, Upgrades, LosesProbe};
 
 use crate::clients::{Lines, close_unread, transport_of, work_on};
-use crate::scene::{Acted, Visit};
+use crate::scene::Visit;
 use connection::{ClockError, Line, Transport};
 use eio_wire::{Packet, WireError, read_payload, write_payload};
 use events::{Answered, App, Cause, CoreFault, Done, IdSource, Outcome};
 use hub_state::{Outbox, State, free_after};
 use std::alloc::{AllocError, Global};
 use std::slice;
+use std::sync::Arc;
 use terms::{Entry, Text};
 
 /// A take of some entries hands out no more bytes than these, but for a single entry that has more.
@@ -192,15 +194,17 @@ fn noop(alloc: Global, line: &mut Line) -> Taken
     Ok(Outcome::Payload(text))
 }
 
-/// Counts the entries that are handed out, where there are some, and then a ping that was due.
-pub(crate) fn count(
+/// Takes so many entries, where there are some, and then a ping that was due.
+pub(crate) fn take_entries(
     visit: Visit,
     state: &mut State,
     line: &mut Line,
     number: usize,
     ping: bool,
-) -> Acted
+) -> Result<Vec<Arc<Entry>>, CoreFault>
     requires { is_open state.old.base state.old.journal visit.client ≡ true }
+    ensures entries { IfOk result (λ entries.
+        map arc_value entries.items ≡ handed state.old visit.client number) }
     ensures none { number ≡ 0 → OnOk result (state.new ≡ state.old) }
     ensures some { 0 < number → OnOk result
         (Makes state.old visit.moment (took state.old visit.client number) state.new) }
@@ -209,13 +213,14 @@ pub(crate) fn count(
         × StopsAt state.old visit.moment (took state.old visit.client number) f
         × (state.new ≡ state.old) × (line.new ≡ line.old)) }
 {
-    if number > 0 {
-        state.take_away(visit.alloc, visit.client, number, visit.moment)?;
-    }
+    let entries = match number {
+        0 => Vec::new(visit.alloc),
+        _ => state.take_shared(visit.alloc, visit.client, number, visit.moment)?,
+    };
     if ping {
         line.carry_ping();
     }
-    Ok(())
+    Ok(entries)
 }
 
 /// Takes the payload for a GET of a client that polls, or says that there is nothing to take. It is
@@ -243,7 +248,7 @@ fn take_waiting(
         };
     }
     let text = payload_of(visit.alloc, packets.as_slice())?;
-    count(visit, state, line, number, ping)?;
+    let _taken = take_entries(visit, state, line, number, ping)?;
     line.end_get();
     Ok(Outcome::Payload(text))
 }

@@ -3,6 +3,7 @@ pub mod EndedLemmas
 pub mod InSpaceLemmas
 pub mod WalkLemmas
 pub mod RecoverLemmas
+pub mod SendLemmas
 pub mod SpaceLemmas
 pub mod PutsLemmas
 pub mod SeatsLemmas

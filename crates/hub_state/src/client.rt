@@ -1,8 +1,9 @@
 //! What a hub holds of a client: its sockets, and what waits for it, which is bounded by the number
 //! of the entries and by their bytes.
 
-ghost use Rattle.std.specs.Prelude.{◌≡◌, ◌-◌, ◌<◌, ◌==◌, not, List, [], ◌∷◌, ◌++◌, length, take, filter, OnOk, OnErr, IfSome, ◌+◌, ◌≤◌, drop, map, false, ◌||◌, nat_le, nat_lt, IfOk, IfNone, option_copied, slice_get, Some};
+ghost use Rattle.std.specs.Prelude.{◌≡◌, ◌-◌, ◌<◌, ◌==◌, not, List, [], ◌∷◌, ◌++◌, length, take, filter, OnOk, OnErr, IfSome, ◌+◌, ◌≤◌, drop, map, false, ◌||◌, nat_le, nat_lt, IfOk, IfNone, option_copied, slice_get, Some, vec_capacity, vec_len};
 ghost use Rattle.std.specs.List.{find};
+ghost use Rattle.std.specs.Option.{option_map};
 ghost use Rattle.journal.specs.Plain.{PlainClient, PlainOutbox};
 ghost use Rattle.journal.specs.declared.socket.Socket.{Socket};
 ghost use Rattle.std.specs.Arc.{arc_value};
@@ -203,17 +204,6 @@ impl Outbox {
         self.give_back();
     }
 
-    /// Takes the oldest entry away.
-    pub fn pop(&mut self)
-        ensures { self.new ≡ record self.old { waiting = drop 1 self.old.waiting } }
-    {
-        if let Some(oldest) = self.ring.pop_front() {
-            // What waits has no more bytes than the outbox may hold.
-            self.free += oldest.size().unwrap_or(0);
-        }
-        self.give_back();
-    }
-
     /// Gives the ring's memory back, where no entry waits and it has more places than an empty
     /// outbox keeps.
     fn give_back(&mut self)
@@ -224,13 +214,31 @@ impl Outbox {
         }
     }
 
-    /// Takes the oldest entries away, as many as are named.
-    pub fn pop_first(&mut self, count: usize)
-        ensures { self.new ≡ record self.old { waiting = drop count self.old.waiting } }
+    /// Takes the oldest entry out, if there is one.
+    fn pop(&mut self) -> Option<Arc<Entry>>
+        ensures left { self.new ≡ record self.old { waiting = drop 1 self.old.waiting } }
+        ensures oldest { option_map arc_value result ≡ slice_get self.old.waiting 0 }
+    {
+        let oldest = self.ring.pop_front()?;
+        // What waits has no more bytes than the outbox may hold.
+        self.free += oldest.size().unwrap_or(0);
+        Some(oldest)
+    }
+
+    /// Takes the oldest entries out, as many as are named, to the end of a list that has room for
+    /// them.
+    pub fn take_first(&mut self, count: usize, taken: &mut Vec<Arc<Entry>>)
+        requires { vec_len taken.old + count ≤ vec_capacity taken.old }
+        ensures left { self.new ≡ record self.old { waiting = drop count self.old.waiting } }
+        ensures taken { map arc_value taken.new.items
+            ≡ map arc_value taken.old.items ++ take count self.old.waiting }
     {
         for _index in 0..count {
-            self.pop();
+            if let Some(oldest) = self.pop() {
+                taken.push_reserved(oldest);
+            }
         }
+        self.give_back();
     }
 
     /// Copies of the oldest entries, as many as are named.

@@ -126,6 +126,18 @@ impl Records {
         let at = self.last;
         self.steps.push(Step { at, what });
     }
+
+    /// Whether the count of commands, of placed or of dropped entries would pass the greatest u64.
+    fn passes(&self, puts: u64, drops: u64) -> bool
+        ensures passes { let counts = self.now.counts in result ≡ (is_past (counts.commands + 1)
+            || is_past (counts.placed + puts) || is_past (counts.dropped + drops)) }
+        ensures small { self.now.counts.placed ≤ 18446744073709551615 }
+    {
+        let commands = self.counts.commands;
+        let placed = self.counts.placed;
+        let dropped = self.counts.dropped;
+        commands == u64::MAX || puts > u64::MAX - placed || drops > u64::MAX - dropped
+    }
 }
 
 /// The state of a new hub.
@@ -211,10 +223,7 @@ impl State {
         ensures small { let h = self.now
             in counted.placed h.base h.limits h.journal ≤ 18446744073709551615 }
     {
-        let commands = self.records.counts.commands;
-        let placed = self.records.counts.placed;
-        let dropped = self.records.counts.dropped;
-        commands == u64::MAX || puts > u64::MAX - placed || drops > u64::MAX - dropped
+        self.records.passes(puts, drops)
     }
 
     /// Refused as `Spent`, where a step that puts and drops so many can't be counted.

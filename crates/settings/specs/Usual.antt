@@ -18,7 +18,7 @@ abbrev pub receiving : ℕ
 receiving = 268435456
 
 abbrev pub together : ℕ
-together = 16
+together = 8
 
 abbrev pub poll_entries : ℕ
 poll_entries = 15

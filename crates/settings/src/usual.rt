@@ -81,7 +81,7 @@ pub const MAX_PAYLOAD: u64 = MOST_BYTES;
 pub const RECEIVING: usize = 268_435_456;
 
 /// How many connections, one after another, one loop is given.
-pub const TOGETHER: u64 = 16;
+pub const TOGETHER: u64 = 8;
 
 /// How many entries one payload over HTTP may have.
 pub const POLL_ENTRIES: usize = 15;

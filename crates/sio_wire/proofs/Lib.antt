@@ -6,4 +6,5 @@ pub mod JsonFieldsLemmas
 pub mod OffsetLemmas
 pub mod ScanLemmas
 pub mod ShapeLemmas
+pub mod TextsLemmas
 pub mod WholeLemmas

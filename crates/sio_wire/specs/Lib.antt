@@ -9,3 +9,4 @@ pub mod Offset
 pub mod ConnectAnswer
 pub mod Disconnect
 pub mod JsonFields
+pub mod Texts

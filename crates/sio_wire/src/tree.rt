@@ -2,16 +2,20 @@
 //! the texts among an event's elements, and what a client's CONNECT says of the session that it had
 //! (Socket.IO server documentation, "Connection state recovery").
 
-ghost use Rattle.std.specs.Prelude.{◌≡◌, ◌⊎◌, Some, None, Ok, Err, IfOk, IfErr, ◌↔◌, IsTrue, Contains, option_map};
+ghost use Rattle.std.specs.Prelude.{◌≡◌, ◌≢◌, ◌⊎◌, ℕ, List, ◌∷◌, map, Some, None, Ok, Err, IfOk, IfErr, MatchOption, ◌↔◌, IsTrue, Contains, option_map};
+ghost use Rattle.std.specs.Bool.{MatchBool};
+ghost use Rattle.json.specs.Token.{Token as SpecToken, string};
 ghost use Rattle.serde_json.specs.Read.{read};
 ghost use Rattle.serde_json.specs.View.{view, items_view};
 ghost use Rattle.sio_wire.specs.JsonFields.{texts_of, names_at, resume_at};
 ghost use Rattle.sio_wire.specs.Faults.{Checks};
 ghost use Rattle.sio_wire.specs.Placeholders.{IsPlaceholder, HasNumberBelow, Placed};
 ghost use Rattle.sio_wire.specs.Shape.{IsTree, IsNoTree, has_shape, HasReservedName, IsPlaced, reserved_names};
+ghost use Rattle.sio_wire.specs.Texts.{text_tokens, IsArrayOf, BeginsWithName, EndsInTexts, IsPlainEvent};
 
 use crate::error::SioError;
 use crate::header::{Header, Kind};
+use json::{Reader, Scratch, Token};
 use serde_json::{Category, Value};
 use std::alloc::{AllocError, Global};
 use terms::Text;
@@ -35,9 +39,60 @@ pub fn names(alloc: Global, payload: &str) -> Result<Vec<Option<Text>>, SioError
     ensures ok { IfOk result (λ found. names_at payload.now ≡ Ok found.items) }
     ensures err { IfErr result (λ e. (e ≡ SioError.Memory) ⊎ (names_at payload.now ≡ Err e)) }
 {
+    if let Some(found) = texts_alone(alloc, payload)? {
+        return Ok(found);
+    }
     match &parse(alloc, payload)? {
         Value::Array(elements) => Ok(texts(alloc, elements)?),
         _ => Err(SioError::BadShape),
+    }
+}
+
+/// The texts of an array that has nothing else in it, as most events have: no tree is needed.
+fn texts_alone(alloc: Global, payload: &str) -> Result<Option<Vec<Option<Text>>>, AllocError>
+    ensures { IfOk result (λ found. MatchOption found
+        ((texts : List (List ℕ)) → ¬ IsArrayOf texts payload.now)
+        (λ names. names_at payload.now ≡ Ok names.items)) }
+{
+    let mut scratch = Scratch::new(alloc);
+    let mut reader = Reader::new(payload, &mut scratch)?;
+    match reader.next() {
+        Some(Token::BeginArray) => texts_left(alloc, &mut reader),
+        _ => Ok(None),
+    }
+}
+
+/// The texts that are left in the array, if only texts are, and nothing is behind it.
+fn texts_left(
+    alloc: Global,
+    reader: &mut Reader<'_>,
+) -> Result<Option<Vec<Option<Text>>>, AllocError>
+    ensures { IfOk result (λ found. MatchOption found (¬ EndsInTexts reader.old)
+        (λ names. (texts : List (List ℕ)) × (reader.old ≡ text_tokens texts)
+        × (names.items ≡ map Some texts))) }
+{
+    let mut found = Vec::new(alloc);
+    'texts: while !reader.take_end_array() {
+        let Some(text) = next_text(reader) else {
+            return Ok(None);
+        };
+        found.push(Some(Text::copy_of(alloc, text)?))?;
+    }
+    match reader.next() {
+        None => Ok(Some(found)),
+        Some(_) => Ok(None),
+    }
+}
+
+/// The text that comes next, if one does.
+fn next_text<'a>(reader: &mut Reader<'a>) -> Option<&'a str>
+    ensures { MatchOption result
+        ((text : List ℕ) (rest : List SpecToken) → reader.old ≢ string text ∷ rest)
+        (λ text. reader.old ≡ string text.now ∷ reader.new) }
+{
+    match reader.next() {
+        Some(Token::String(text)) => Some(text),
+        _ => None,
     }
 }
 
@@ -88,6 +143,9 @@ pub fn resume_of(alloc: Global, payload: &str) -> Result<Option<Resume>, SioErro
 pub(crate) fn check_payload(alloc: Global, header: &Header) -> Result<(), SioError>
     ensures { Checks header.now result }
 {
+    if is_plain_event(alloc, header)? {
+        return Ok(());
+    }
     let tree = read_tree(alloc, header.payload.as_str())?;
     if !has_shape(header.kind, header.id, &tree) {
         return Err(SioError::BadShape);
@@ -99,6 +157,48 @@ pub(crate) fn check_payload(alloc: Global, header: &Header) -> Result<(), SioErr
         return Err(SioError::BadPlaceholder);
     }
     Ok(())
+}
+
+/// Whether this is an event that has nothing but texts in its payload, and a name that is free.
+/// Most events are, and are looked at without a tree.
+fn is_plain_event(alloc: Global, header: &Header) -> Result<bool, AllocError>
+    ensures { IfOk result (λ plain. IsTrue plain ↔ IsPlainEvent header.now) }
+{
+    let payload = header.payload.as_str();
+    // U+001E separates packets in a polling payload.
+    if header.kind != Kind::Event || payload.as_bytes().contains(&0x1e) {
+        return Ok(false);
+    }
+    let mut scratch = Scratch::new(alloc);
+    let mut reader = Reader::new(payload, &mut scratch)?;
+    Ok(begins_with_name(&mut reader) && ends_in_texts(&mut reader))
+}
+
+/// Reads the bracket that opens an array, and the text behind it. Whether these are there, and the
+/// text is a name that events may have.
+fn begins_with_name(reader: &mut Reader<'_>) -> bool
+    ensures { MatchBool result (BeginsWithName reader.old reader.new)
+        ((rest : List SpecToken) → ¬ BeginsWithName reader.old rest) }
+{
+    let Some(Token::BeginArray) = reader.next() else {
+        return false;
+    };
+    match next_text(reader) {
+        Some(name) => !is_reserved_name(name),
+        None => false,
+    }
+}
+
+/// Whether only texts are left in the array, and nothing behind it.
+fn ends_in_texts(reader: &mut Reader<'_>) -> bool
+    ensures { IsTrue result ↔ EndsInTexts reader.old }
+{
+    'texts: while !reader.take_end_array() {
+        let Some(_) = next_text(reader) else {
+            return false;
+        };
+    }
+    reader.next().is_none()
 }
 
 /// The JSON tree of a payload; none for the empty text.

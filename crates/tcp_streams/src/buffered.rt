@@ -11,6 +11,13 @@ use std::{io, mem};
 /// connection that sends much takes the same memory.
 const KEPT: usize = 32_768;
 
+/// A write of so many bytes is one of many, as broadcasts of that size are taken together.
+const MUCH: usize = 4_096;
+
+/// How many bytes the output has room for then, so that it doesn't grow by each: as many as one
+/// take of a client hands out.
+const AHEAD: usize = 262_144;
+
 /// What a connection reads and writes.
 pub type Stream = Box<Buffered<TcpStream>>;
 
@@ -222,6 +229,9 @@ impl<S> Write for Buffered<S> {
         if !self.cut {
             self.used = true;
             self.kept = true;
+            if buf.len() >= MUCH && self.output.capacity() < AHEAD {
+                self.output.reserve(AHEAD)?;
+            }
             self.output.extend_from_slice(buf)?;
         }
         Ok(buf.len())

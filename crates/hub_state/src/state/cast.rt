@@ -3,7 +3,7 @@
 //! documentation, "Rooms" and "Adapter"; Socket.IO protocol 5, "Sending and receiving data" and
 //! "Acknowledgement").
 
-ghost use Rattle.std.specs.Prelude.{◌≡◌, not, filter, IfOk, OnOk, ◌<◌, ◌≤◌, ◌^◌, ℕ, false, map, nat_eq, None, Some, IfSome, IfErr, OnErr, [], length, get_or};
+ghost use Rattle.std.specs.Prelude.{◌≡◌, ◌≢◌, not, filter, IfOk, OnOk, ◌<◌, ◌≤◌, ◌^◌, ℕ, true, false, map, nat_eq, None, Some, Ok, IfSome, IfErr, OnErr, [], length, get_or};
 ghost use Rattle.std.specs.List.{flat_map, list_any, IsDistinct, AllByRecursion};
 ghost use Rattle.std.specs.Ordering.{nat_cmp};
 ghost use Rattle.std.specs.BTreeMap.{get};
@@ -11,19 +11,18 @@ ghost use Rattle.std.specs.Arc.{arc_value};
 ghost use Rattle.room_maps.specs.Membership.{is_in};
 ghost use Rattle.room_maps.specs.Addressed.{is_addressed};
 ghost use Rattle.journal.specs.Membership.{is_in_space, place_of};
-ghost use Rattle.journal.specs.Casting.{in_space, ListsInside, is_full_in, receiver_of, pair_of, with_entries, with_logged, refusal_of, offset_of, has_no_offset, IsCastOf, IsCastError, CastDoes};
+ghost use Rattle.journal.specs.Casting.{in_space, ListsInside, is_full_in, client_of, receiver_of, pair_of, with_entries, with_logged, refusal_of, offset_of, has_no_offset, IsCastOf, IsCastError, CastDoes};
 ghost use Rattle.journal.specs.Casting as casting;
-ghost use Rattle.hub_state.specs.Words.{rooms_now, TellsNow, AllHear};
+ghost use Rattle.hub_state.specs.Words.{rooms_now, AllHear};
 ghost use Rattle.std.specs.Option.{option_map, option_map_or};
 ghost use Rattle.sio_wire.specs.Header.{Plain};
 ghost use Rattle.sio_wire.specs.Offset.{payload_with_offset};
 ghost use Rattle.journal.specs.Outboxes.{entries_for};
 ghost use Rattle.journal.specs.Log.{logged, next};
-ghost use Rattle.journal.specs.Journal.{moment_at};
+ghost use Rattle.journal.specs.Fields.{with_entry};
 ghost use Rattle.journal.specs.Broadcast.{IsOfAForm, broadcast_header, id_of};
-ghost use Rattle.journal.specs.declared.step.What.{What};
-ghost use Rattle.hub_state.specs.Changes.{SameClients, WithoutNewest, MakesStep};
-ghost use Rattle.hub_state.specs.Sending.{done_of, IsCounted};
+ghost use Rattle.hub_state.specs.Changes.{ChangesClient, SameClients, WithoutNewest};
+ghost use Rattle.hub_state.specs.Sending.{sent_to, messages_to, TellsTo, done_of, Sends};
 
 use crate::client::Clients;
 use crate::seats::Seats;
@@ -144,6 +143,61 @@ pub(crate) fn put_messages(
     Ok(())
 }
 
+/// Puts an entry into a client's outbox, if that has space for it. Answers whether it has.
+fn put_if_it_fits(
+    clients: &mut Clients,
+    client: u128,
+    entry: &Arc<Entry>,
+) -> Result<bool, AllocError>
+    ensures fits { IfOk result (λ put.
+        put ≡ not (is_full_in (get nat_cmp clients.old) (arc_value entry.now) client)) }
+    ensures put { result ≡ Ok true
+        → ChangesClient (with_entry (arc_value entry.now)) client clients.old clients.new }
+    ensures same { result ≢ Ok true → SameClients clients.old clients.new }
+{
+    let Some(known) = clients.get_mut(&client) else {
+        return Ok(true);
+    };
+    if known.outbox.has_no_space(entry) {
+        return Ok(false);
+    }
+    known.outbox.push(Arc::try_clone(entry)?)?;
+    Ok(true)
+}
+
+/// Puts an entry into the outbox of each socket's client that has space for it, or where memory is
+/// refused in the middle into none. Answers the clients that got it, and the sockets that miss it.
+fn put_each(
+    alloc: Global,
+    clients: &mut Clients,
+    sockets: &[Socket],
+    entry: &Arc<Entry>,
+) -> Result<(Vec<u128>, Vec<Sid>), AllocError>
+    requires apart { IsDistinct nat_eq (map client_of sockets.now) }
+    ensures told { IfOk result (λ both. both.0.items ≡ map receiver_of
+        (casting.messages_for (get nat_cmp clients.old) (arc_value entry.now) sockets.now)) }
+    ensures missing { IfOk result (λ both. both.1.items
+        ≡ casting.missing (get nat_cmp clients.old) (arc_value entry.now) sockets.now) }
+    ensures put { OnOk result ((q : ℕ) → get nat_cmp clients.new q ≡ option_map (with_entries
+        (entries_for q (map pair_of (casting.messages_for (get nat_cmp clients.old)
+        (arc_value entry.now) sockets.now)))) (get nat_cmp clients.old q)) }
+    ensures err { OnErr result (SameClients clients.old clients.new) }
+{
+    let mut reached = Vec::with_capacity(alloc, sockets.len())?;
+    let mut missing = Vec::new(alloc);
+    for socket in sockets {
+        match put_if_it_fits(clients, socket.client, entry) {
+            Ok(true) => reached.push_reserved(socket.client),
+            Ok(false) if missing.push(socket.sid).is_ok() => {}
+            _ => {
+                take_all_back(clients, &reached);
+                return Err(AllocError);
+            }
+        }
+    }
+    Ok((reached, missing))
+}
+
 /// The broadcast as the log has it, where it has an offset.
 fn log_entry(alloc: Global, at: u64, broadcast: &Broadcast) -> Result<Option<Logged>, AllocError>
     ensures ok { let b = broadcast.now in IfOk result (λ e. e ≡ option_map (logged at b) b.offset) }
@@ -226,36 +280,43 @@ impl State {
         self.log.next()
     }
 
-    /// Puts and logs a broadcast that may be put.
+    /// Puts a broadcast for these sockets, and logs it. It drops those whose clients have no space.
+    /// Where memory or a count is refused nothing changes.
     fn send(
         &mut self,
         alloc: Global,
-        broadcast: Broadcast,
-        messages: Vec<Message>,
-        entry: Option<Logged>,
+        mut broadcast: Broadcast,
+        sockets: &[Socket],
         now: u64,
     ) -> Result<CastDone>
         requires formed { IsOfAForm self.old.limits broadcast }
-        requires counted { IsCounted self.old broadcast }
-        requires tells { TellsNow self.old broadcast messages.items }
-        requires logged { entry
-            ≡ option_map (logged (moment_at self.old now) broadcast) broadcast.offset }
-        ensures does { MakesStep self.old self.new now (What.Cast broadcast) result }
-        ensures done { IfOk result (λ done. done ≡ done_of broadcast messages.items) }
+        requires offset { let h = self.old
+            in IfSome broadcast.offset (λ offset. next h.base h.journal ≡ Some offset) }
+        requires once { IsDistinct nat_eq (map client_of sockets.now) }
+        requires tells { TellsTo self.old sockets.now broadcast }
+        ensures does { Sends self.old self.new now (sent_to self.old sockets.now broadcast) result }
+        ensures done { let h = self.old in IfOk result (λ done. done ≡ done_of
+            (sent_to h sockets.now broadcast) (messages_to h sockets.now broadcast)) }
     {
-        let done = CastDone {
-            offset: broadcast.offset,
-            placed: messages.len() as u64,
-            dropped: broadcast.dropped.len() as u64,
-            clients: receivers(alloc, &messages)?,
-        };
+        let entry = log_entry(alloc, now.max(self.records.last), &broadcast)?;
+        self.records.steps.reserve()?;
+        let (reached, dropped) = put_each(alloc, &mut self.clients, sockets, &broadcast.entry)?;
         let added = Counts {
-            placed: done.placed,
-            dropped: done.dropped,
+            placed: reached.len() as u64,
+            dropped: dropped.len() as u64,
             ..NONE
         };
-        self.records.steps.reserve()?;
-        put_messages(&mut self.clients, messages, &done.clients)?;
+        if self.records.passes(added.placed, added.dropped) {
+            take_all_back(&mut self.clients, &reached);
+            return Err(HubError::Spent);
+        }
+        let done = CastDone {
+            offset: broadcast.offset,
+            placed: added.placed,
+            dropped: added.dropped,
+            clients: reached,
+        };
+        broadcast.dropped = dropped;
         self.records.add(now, What::Cast(broadcast), added);
         push_logged(&mut self.log, entry);
         Ok(done)
@@ -282,19 +343,21 @@ impl State {
         Ok((place, Some(offset)))
     }
 
-    /// The broadcast that a cast asks for, and the messages for those whom it reaches.
+    /// The broadcast that a cast asks for, with no drops yet, and the sockets that it is for.
     fn build(
         &self,
         alloc: Global,
         place: u16,
         offset: Option<u64>,
         cast: Cast,
-    ) -> Result<(Broadcast, Vec<Message>), AllocError>
+    ) -> Result<(Broadcast, Vec<Socket>), AllocError>
         requires place { place ≡ place_of self.now.limits cast.space }
         requires offset { offset ≡ offset_of self.now cast.form }
         requires accepted { refusal_of self.now cast ≡ None }
         ensures asked { IfOk result (λ both. IsCastOf self.now cast both.0) }
-        ensures tells { IfOk result (λ both. TellsNow self.now both.0 both.1.items) }
+        ensures no_drops { IfOk result (λ both. both.0.dropped ≡ []) }
+        ensures once { IfOk result (λ both. IsDistinct nat_eq (map client_of both.1.items)) }
+        ensures tells { IfOk result (λ both. TellsTo self.now both.1.items both.0) }
     {
         let Cast {
             space: _,
@@ -307,16 +370,15 @@ impl State {
         let entry = self.entry(alloc, place, form, payload, attachments, offset)?;
         let sids = self.listeners(alloc, place, &rooms, &excepted)?;
         let sockets = sockets_in(alloc, &self.live.seats, &sids, place)?;
-        let (messages, dropped) = messages_for(alloc, &self.clients, &sockets, &entry)?;
         let broadcast = Broadcast {
             space: place,
             rooms,
             excepted,
             offset,
             entry,
-            dropped,
+            dropped: Vec::new(alloc),
         };
-        Ok((broadcast, messages))
+        Ok((broadcast, sockets))
     }
 
     /// Puts an event, a question or an answer into the outboxes of the sockets of a namespace that
@@ -335,10 +397,8 @@ impl State {
         // The prover needs what holds of every hub, before and after.
         self.facts();
         let (place, offset) = self.judge(&cast)?;
-        let (broadcast, messages) = self.build(alloc, place, offset, cast)?;
-        self.may_count(messages.len() as u64, broadcast.dropped.len() as u64)?;
-        let entry = log_entry(alloc, now.max(self.records.last), &broadcast)?;
-        let done = self.send(alloc, broadcast, messages, entry, now);
+        let (broadcast, sockets) = self.build(alloc, place, offset, cast)?;
+        let done = self.send(alloc, broadcast, &sockets, now);
         self.facts();
         done
     }

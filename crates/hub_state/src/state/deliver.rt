@@ -1,12 +1,12 @@
 //! Entries are put into clients' outboxes and handed out.
 
-ghost use Rattle.std.specs.Prelude.{◌≡◌, false, length, min, take, string_bytes, IfOk, IfErr, IfSome, OnOk, OnErr, None, Some};
+ghost use Rattle.std.specs.Prelude.{◌≡◌, ◌+◌, ◌≤◌, ◌++◌, false, length, map, min, take, string_bytes, IfOk, IfErr, IfSome, OnOk, OnErr, None, Some, vec_capacity, vec_len};
 ghost use Rattle.std.specs.Ordering.{nat_cmp};
 ghost use Rattle.std.specs.BTreeMap.{get};
 ghost use Rattle.std.specs.Arc.{arc_value};
 ghost use Rattle.journal.specs.Outboxes.{has_no_space};
 ghost use Rattle.journal.specs.Command.{Does};
-ghost use Rattle.journal.specs.Fields.{without_first, with_entry};
+ghost use Rattle.journal.specs.Fields.{held_entries, without_first, with_entry};
 ghost use Rattle.journal.specs.declared.step.What.{What};
 ghost use Rattle.hub_state.specs.Changes.{ChangesClient, SameClients, without_newest, refusal_now};
 ghost use Rattle.hub_state.specs.Words.{waits, plain_entry, told, took};
@@ -19,12 +19,15 @@ use std::alloc::{AllocError, Global};
 use std::sync::Arc;
 use terms::{Attachments, Entry, Text};
 
-/// Takes the first entries of a client's outbox away.
-fn hand_out(clients: &mut Clients, client: u128, count: usize)
-    ensures { ChangesClient (without_first count) client clients.old clients.new }
+/// Takes the first entries of a client's outbox out, to the end of a list that has room for them.
+fn hand_out(clients: &mut Clients, client: u128, count: usize, taken: &mut Vec<Arc<Entry>>)
+    requires { vec_len taken.old + count ≤ vec_capacity taken.old }
+    ensures left { ChangesClient (without_first count) client clients.old clients.new }
+    ensures taken { map arc_value taken.new.items ≡ map arc_value taken.old.items
+        ++ take count (held_entries (get nat_cmp clients.old client)) }
 {
     if let Some(known) = clients.get_mut(&client) {
-        known.outbox.pop_first(count);
+        known.outbox.take_first(count, taken);
     }
 }
 
@@ -117,25 +120,35 @@ impl State {
         Ok(entries)
     }
 
-    /// Takes entries as `take`, but copies none: who wants them has read them by `outbox`. It tells
-    /// how many they are.
-    pub fn take_away(
+    /// Takes entries as `take`, each shared.
+    pub fn take_shared(
         &mut self,
-        _alloc: Global,
+        alloc: Global,
         client: u128,
         most: usize,
         now: u64,
-    ) -> Result<usize>
-        ensures number { IfOk result (λ n. n ≡ min most (length (waits self.old client))) }
+    ) -> Result<Vec<Arc<Entry>>>
+        ensures entries { IfOk result (λ all.
+            map arc_value all.items ≡ take most (waits self.old client)) }
         ensures does { Does self.old self.new now (took self.old client most) result }
     {
         let number = self.takes(client, most)?;
+        let mut entries = Vec::with_capacity(alloc, number)?;
         self.records.steps.reserve()?;
-        hand_out(&mut self.clients, client, number);
+        hand_out(&mut self.clients, client, number, &mut entries);
         let taken = number as u64;
         let added = Counts { taken, ..NONE };
         self.records
             .add(now, What::Took(client, most, number), added);
-        Ok(number)
+        Ok(entries)
+    }
+
+    /// Takes entries as `take`, but tells only how many they are: who wants them has read them by
+    /// `outbox`.
+    pub fn take_away(&mut self, alloc: Global, client: u128, most: usize, now: u64) -> Result<usize>
+        ensures number { IfOk result (λ n. n ≡ min most (length (waits self.old client))) }
+        ensures does { Does self.old self.new now (took self.old client most) result }
+    {
+        Ok(self.take_shared(alloc, client, most, now)?.len())
     }
 }

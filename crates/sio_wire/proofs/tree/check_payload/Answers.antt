@@ -1,6 +1,10 @@
 use Rattle.std.proofs.Common.{inr, ◌∙◌, sym, option_map, true≢false}
 use Rattle.serde_json.specs.View.{view}
+use Rattle.sio_wire.proofs.TextsLemmas.{HasPayload-plain}
 use Rattle.sio_wire.proofs.tree.check_payload.Goals as goal
+
+pub returns-then-branch : goal.returns-then-branch
+returns-then-branch c = HasPayload-plain c.args.header.now (c.in_ok-is_plain_event.ensures.0 c.if-branch.true)
 
 pub returns-then-not-is_placed : goal.returns-then-not-is_placed
 returns-then-not-is_placed c =
