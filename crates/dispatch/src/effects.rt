@@ -22,7 +22,7 @@ use events::{Cause, CoreFault, Done, Effect, Inquiry, Reply, Selection, Stopped,
 use hub_state::State;
 use journal::{Cast, Dismissed, Form, HubError, Side};
 use room_maps::RoomError;
-use sio_wire::{Header, Kind, disconnect_text, write_header};
+use sio_wire::{Header, Kind, Payload, disconnect_text, write_header};
 use std::alloc::{AllocError, Global};
 use std::fmt::Write;
 use terms::{Attachments, Entry, Room, Sid, Text, ascii_text, id_text};
@@ -133,7 +133,7 @@ fn entry_of(
         kind,
         space: Text::copy_of(alloc, who.space.as_str())?,
         id: Some(id),
-        payload,
+        payload: Payload::of(payload),
         count: attachments.len() as u32,
     };
     let text = write_header(alloc, &header).or(Err(CoreFault::Memory))?;

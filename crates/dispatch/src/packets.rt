@@ -25,7 +25,7 @@ use events::{
 };
 use journal::Side;
 use recovery::Pid;
-use sio_wire::{Header, Kind, SioError, SioPacket, read_offset, refused_text, resume_of};
+use sio_wire::{Header, Kind, Payload, SioError, SioPacket, read_offset, refused_text, resume_of};
 use std::alloc::Global;
 use terms::{Attachments, Entry, Sid, Text, read_id};
 
@@ -42,7 +42,7 @@ fn close_for(scene: &mut Scene, cause: Cause) -> Worked
 struct Said {
     kind: Kind,
     id: Option<u64>,
-    payload: Text,
+    payload: Payload,
     attachments: Attachments,
 }
 
@@ -81,7 +81,7 @@ fn receive_stray<A: App>(scene: &mut Scene, app: &A, who: &Who, id: u64, said: S
     scene.tally.ignore();
     let arrived = Arrived::Stray(Stray {
         id,
-        payload: said.payload,
+        payload: said.payload.into_text(),
         attachments: said.attachments,
     });
     decide(scene, app, who, arrived, 0)
@@ -102,7 +102,7 @@ fn take_answer<A: App>(scene: &mut Scene, app: &A, who: &Who, said: Said) -> Wor
     };
     let arrived = Arrived::Answer(Answer {
         tag,
-        payload: said.payload,
+        payload: said.payload.into_text(),
         attachments: said.attachments,
     });
     decide(scene, app, who, arrived, 0)
@@ -197,7 +197,9 @@ fn ask_app<A: App, I: IdSource>(scene: &mut Scene, app: &A, ids: &mut I, header:
         space.as_str(),
         payload.as_str(),
     ) {
-        Ok(Verdict::Accept(wanted)) => { accept(scene, app, ids, space, payload, wanted) }
+        Ok(Verdict::Accept(wanted)) => {
+            accept(scene, app, ids, space, payload.into_text(), wanted)
+        }
         Ok(Verdict::Refuse(message)) => { refuse(scene, space.as_str(), message.as_str()) }
         Err(_) => Err(CoreFault::Memory.into()),
     }

@@ -4,6 +4,7 @@ ghost use Rattle.std.specs.Prelude.{◌≡◌, ◌+◌, ℕ, IfOk};
 ghost use Rattle.events.specs.App.{Policy, plain_verdict, IsCleanVerdict, IsCleanArrival, AllClean};
 
 use journal::{Cast, Ending};
+use sio_wire::Payload;
 use std::alloc::{AllocError, Global};
 use std::marker::Model;
 use terms::{Attachments, Room, Sid, Text};
@@ -72,7 +73,7 @@ impl Model for Returned {
 #[derive(Debug, Drop)]
 pub struct Message {
     /// The event's name and data as a JSON array.
-    pub payload: Text,
+    pub payload: Payload,
     /// What the placeholders of the payload stand for.
     pub attachments: Attachments,
     /// The id under which it asks to be acknowledged, if it does.

@@ -93,7 +93,7 @@ impl Links {
     pub fn is_taker(&self, key: usize) -> bool
         ensures { result ≡ all.is_taker_at key self.now }
     {
-        let client = self.link(key).client;
+        let client = self.client(key);
         client.is_some_and(|client| self.roster.takers.is_taker(client, key))
     }
 

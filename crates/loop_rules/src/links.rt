@@ -10,7 +10,7 @@ ghost use Rattle.loop_rules.specs.Links as all;
 ghost use Rattle.loop_rules.specs.Links.{link_at, KeepsAllBut, KeepsOthers};
 
 use crate::delays::Delays;
-use crate::link::Link;
+use crate::link::{Course, Link};
 use crate::paces::{Pace, Paces};
 use crate::pressure::Pressure;
 use crate::receiving::{Receiving, Sender};
@@ -74,6 +74,26 @@ impl Links {
         }
     }
 
+    /// What the connection with this key is about.
+    pub fn course(&self, key: usize) -> Course
+        ensures { result ≡ (link_at self.now.links.items key).course }
+    {
+        match self.links.get(key) {
+            Some(link) => link.course,
+            None => Course::Lingers,
+        }
+    }
+
+    /// Whose the connection with this key is, once that is known.
+    pub fn client(&self, key: usize) -> Option<u128>
+        ensures { result ≡ (link_at self.now.links.items key).client }
+    {
+        match self.links.get(key) {
+            Some(link) => link.client,
+            None => None,
+        }
+    }
+
     /// The connection with this key is so now.
     pub(crate) fn put(&mut self, key: usize, link: Link)
         ensures links { self.new.links.items ≡ all.put_at key link self.old.links.items }
@@ -116,11 +136,10 @@ impl Links {
     pub fn most(&self, key: usize) -> usize
         ensures { result ≡ all.most_at key self.now }
     {
-        let link = self.link(key);
-        if !link.course.is_receiving() {
-            return usize::MAX;
+        match self.links.get(key) {
+            Some(link) if link.course.is_receiving() => self.limit(link.sender(key)),
+            _ => usize::MAX,
         }
-        self.limit(link.sender(key))
     }
 
     /// How many bytes of a sender may be unfinished, beside the attachments that it has begun.
@@ -150,12 +169,12 @@ impl Links {
         ensures rota { self.new.roster.rota ≡ rotas.dismissed_at key self.old.roster.rota }
         ensures none { bytes_of self.new.receiving.messages key ≡ 0 }
     {
-        let link = self.link(key);
+        let client = self.client(key);
         // Nothing takes no memory.
         let _ = self.receiving.messages.note(key as u128, 0, 0);
         self.note_whole(key);
         self.roster.rota.dismiss(key);
-        if let Some(client) = link.client {
+        if let Some(client) = client {
             self.roster.takers.release(client, key);
         }
         self.put(key, Link::over());

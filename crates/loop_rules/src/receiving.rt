@@ -7,7 +7,7 @@ ghost use Rattle.loop_rules.specs.Rotas.{times};
 ghost use Rattle.std.specs.Bool.{OnTrue, OnFalse};
 ghost use Rattle.std.specs.List.{list_any};
 
-use crate::link::{Link, Seen};
+use crate::link::Seen;
 use crate::links::Links;
 use std::alloc::{AllocError, Global};
 use std::collections::{HashMap, VecDeque};
@@ -314,34 +314,36 @@ impl Links {
         ensures others { KeepsOthers key self.old self.new }
         ensures takers { self.new.roster.takers ≡ self.old.roster.takers }
     {
-        let link = self.count(key, seen, now);
+        self.count(key, seen, now);
+        let Some(link) = self.links.get(key) else {
+            return;
+        };
         if link.held || !link.course.is_receiving() {
             return;
         }
-        let sender = link.sender(key);
-        let attached = self.bytes_attached(sender);
-        let bytes = link.bytes_unfinished(seen).saturating_add(attached);
+        let (sender, bytes) = (link.sender(key), link.bytes_unfinished(seen));
+        let bytes = bytes.saturating_add(self.bytes_attached(sender));
         match self.receiving.settle(key, sender, bytes) {
-            Ok(held) => self.put(key, Link { held, ..link }),
+            Ok(held) => self.links[key].held = held,
             Err(_) => self.roster.rota.call(key),
         }
     }
 
     /// What came of a connection and isn't whole is counted, if it is much and memory allows.
-    fn count(&mut self, key: usize, seen: Seen, now: u64) -> Link
-        ensures link { result ≡ link_at self.new.links.items key }
-        ensures counted { holding.IsCounted seen (link_at self.old.links.items key) result }
+    fn count(&mut self, key: usize, seen: Seen, now: u64)
+        ensures counted { holding.IsCounted seen
+            (link_at self.old.links.items key) (link_at self.new.links.items key) }
         ensures others { KeepsOthers key self.old self.new }
         ensures roster { self.new.roster ≡ self.old.roster }
     {
-        let mut link = self.link(key);
+        let Some(link) = self.links.get(key) else {
+            return;
+        };
         let bytes = link.bytes_unfinished(seen);
         let counted = if bytes < SMALL { 0 } else { bytes };
         if counted != link.counted && self.receiving.messages.note(key as u128, counted, now) {
-            link.counted = counted;
-            self.put(key, link);
+            self.links[key].counted = counted;
         }
-        self.link(key)
     }
 
     /// Calls the first connection that is held, if it may be read on now.
@@ -395,7 +397,7 @@ impl Links {
         self.receiving.note_left(turn.sender, 0);
         match turn.sender {
             Sender::Client(client) => Some(client),
-            Sender::Connection(key) => self.link(key).client,
+            Sender::Connection(key) => self.client(key),
         }
     }
 

@@ -31,9 +31,9 @@ impl Links {
         ensures takers { self.new.roster.takers ≡ self.old.roster.takers }
     {
         let key = self.roster.rota.pop()?;
-        let mut link = self.link(key);
-        link.left = EVENTS;
-        self.put(key, link);
+        if key < self.links.len() {
+            self.links[key].left = EVENTS;
+        }
         Some(key)
     }
 
@@ -87,7 +87,7 @@ impl Links {
     {
         let link = self.look_ahead(key, now);
         if link.course.is_post() {
-            return self.post(key, link, seen, now);
+            return self.post(key, seen, now);
         }
         link.next(seen, now)
     }
@@ -113,25 +113,31 @@ impl Links {
             };
         }
         link.waits = pressed || link.paced > 0;
-        self.put(key, link);
+        if key < self.links.len() {
+            let place = &mut self.links[key];
+            place.waits = link.waits;
+            place.paced = link.paced;
+        }
         link
     }
 
-    /// What a POST does next, which stands so.
-    fn post(&mut self, key: usize, link: Link, seen: Seen, now: u64) -> Do
-        ensures next { stints.Posts key seen now self.old.receiving link result
-            self.old.links.items self.new.links.items }
+    /// What a POST does next.
+    fn post(&mut self, key: usize, seen: Seen, now: u64) -> Do
+        ensures next { stints.Posts key seen now self.old.receiving
+            (link_at self.old.links.items key) result self.old.links.items self.new.links.items }
         ensures roster { self.new.roster ≡ self.old.roster }
         ensures receiving { self.new.receiving ≡ self.old.receiving }
     {
+        let link = self.link(key);
         if link.waits || seen.unbrought >= self.limit(link.sender(key)) {
             return Do::Rest(Pause::Done);
         }
         if self.counts(link, now) {
             return link.next(seen, now);
         }
-        let waits = true;
-        self.put(key, Link { waits, ..link });
+        if key < self.links.len() {
+            self.links[key].waits = true;
+        }
         Do::Rest(Pause::Done)
     }
 
@@ -157,14 +163,15 @@ impl Links {
         ensures roster { self.new.roster ≡ self.old.roster }
         ensures receiving { self.new.receiving ≡ self.old.receiving }
     {
-        let mut link = self.link(key);
-        let counts = is_message(event);
-        if let (true, Some(paces), Some(client)) = (counts, &mut self.paces, link.client) {
+        let (counts, client) = (is_message(event), self.client(key));
+        if let (true, Some(paces), Some(client)) = (counts, &mut self.paces, client) {
             let _ = paces.bring(client, 1, at);
         }
         let asks_due = matches!(event, Event::Tick { .. });
-        link.course = link.course.brought(asks_due, at);
-        self.put(key, link);
+        if key < self.links.len() {
+            let link = &mut self.links[key];
+            link.course = link.course.brought(asks_due, at);
+        }
     }
 
     /// The event of a connection was answered, which says this. Answers what follows.
@@ -175,9 +182,14 @@ impl Links {
         ensures takers { self.new.roster.takers ≡ self.old.roster.takers }
         ensures receiving { self.new.receiving ≡ self.old.receiving }
     {
-        let mut link = self.link(key);
-        let decision = self.roster.rota.follow(key, &mut link.left, found, full);
-        self.put(key, link);
+        let mut left = match self.links.get(key) {
+            Some(link) => link.left,
+            None => EVENTS,
+        };
+        let decision = self.roster.rota.follow(key, &mut left, found, full);
+        if key < self.links.len() {
+            self.links[key].left = left;
+        }
         match decision {
             Decision::GoesOn => Do::GoOn,
             Decision::Again | Decision::Rests | Decision::Held => Do::Send,
@@ -204,10 +216,10 @@ impl Links {
             ≡ all.changed_at key (one.heard_loss got.now now) self.old }
         ensures rest { KeepsAllBut self.old self.new }
     {
-        let mut link = self.link(key);
-        let pause = link.hear_loss(got, now);
-        self.put(key, link);
-        pause
+        if key < self.links.len() {
+            return self.links[key].hear_loss(got, now);
+        }
+        None
     }
 
     /// The stint of a connection is over, and no event was answered last.
@@ -227,12 +239,11 @@ impl Links {
         ensures takers { self.new.roster.takers ≡ self.old.roster.takers }
         ensures receiving { self.new.receiving ≡ self.old.receiving }
     {
-        let link = self.link(key);
-        if link.unsent || key >= self.links.len() {
+        if key >= self.links.len() || self.links[key].unsent {
             return;
         }
         let unsent = self.unsent.push_back(key).is_ok();
-        self.put(key, Link { unsent, ..link });
+        self.links[key].unsent = unsent;
         if !unsent {
             self.roster.rota.call(key);
         }
@@ -246,9 +257,9 @@ impl Links {
         ensures receiving { self.new.receiving ≡ self.old.receiving }
     {
         let key = self.unsent.pop_front()?;
-        let mut link = self.link(key);
-        link.unsent = false;
-        self.put(key, link);
+        if key < self.links.len() {
+            self.links[key].unsent = false;
+        }
         Some(key)
     }
 
@@ -395,7 +406,7 @@ impl Links {
     {
         match concern {
             Concern::Nobody => {}
-            Concern::Opens if !self.link(key).course.is_socket() => {}
+            Concern::Opens if !self.course(key).is_socket() => {}
             Concern::Opens | Concern::Takes | Concern::ComesOver => self.assign(client, key),
             Concern::Wakes => self.roster.wake(client),
             Concern::Ends => self.note_end(client, now),

@@ -115,7 +115,7 @@ fn is_packet(packet: SioPacket, bytes: &[u8], payload: &str) -> Result<bool, Sio
     } = packet;
     let is_event = header.kind == Kind::BinaryEvent;
     let entry = Entry {
-        text: header.payload,
+        text: header.payload.into_text(),
         attachments,
     };
     let copy = match entry.clone() {

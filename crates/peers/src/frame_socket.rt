@@ -1,9 +1,11 @@
 //! One WebSocket of the server's side: its frames as they come, each read where it lies, and as they
 //! are sent, each written right into the stream (RFC 6455, sections 5 and 7).
 
-ghost use Rattle.std.specs.Prelude.{◌≡◌, ◌↔◌, ◌++◌, [], IsTrue, OnOk, IfErr};
+ghost use Rattle.std.specs.Prelude.{None, ◌+◌, ◌≡◌, ◌≤◌, ◌↔◌, ◌++◌, [], IsTrue, OnOk, IfErr, drop, length, take, vec_len};
 ghost use Rattle.std.specs.Io.KnownBytes.{Appends};
+ghost use Rattle.websocket.specs.Connection.{whole_header};
 ghost use Rattle.websocket.specs.Content.{message_content};
+ghost use Rattle.websocket.specs.Frame.{encode_frame};
 ghost use Rattle.websocket.specs.declared.protocol.frame.coding.Data.TheVariants as kind;
 ghost use Rattle.websocket.specs.declared.protocol.frame.coding.OpCode.TheVariants as opcode;
 ghost use Rattle.events.specs.declared.peer.PeerFault.TheVariants.{Device};
@@ -30,6 +32,9 @@ pub(crate) const LONGEST: usize = 1_048_576;
 /// How many bytes one read asks for at the most.
 const READ: usize = 2_048;
 
+/// The longest message whose length stands in the second byte of its frame (section 5.2).
+const SHORT: usize = 125;
+
 /// A WebSocket of the server's side. In a contract it is its stream, how far the protocol has come,
 /// and what was read of frames that are still to be brought.
 pub struct FrameSocket<S> {
@@ -37,7 +42,7 @@ pub struct FrameSocket<S> {
     stream: S,
     context: WebSocketContext,
     input: Vec<u8>,
-    // What the protocol replies, and heads of frames, until they are written.
+    // What the protocol replies, and heads of long frames, until they are written.
     output: Vec<u8>,
 }
 
@@ -101,6 +106,35 @@ fn heard(alloc: Global, message: Message<'_>) -> Incoming
         Message::Close(_) => return Incoming::Gone(PeerFault::Ended),
     };
     frame.map_or(Incoming::Gone(PeerFault::Memory), Incoming::Frame)
+}
+
+/// Forgets the first bytes. Mostly these are all, and then none has to move.
+fn forget_first(input: &mut Vec<u8>, count: usize)
+    requires { count ≤ vec_len input.old }
+    ensures { input.new.items ≡ drop count input.old.items }
+{
+    if count == input.len() {
+        input.clear();
+    } else {
+        input.drain(..count);
+    }
+}
+
+/// Puts a short message of two parts together as one frame, and tells how many bytes that has: so
+/// most messages are one write, and no memory is asked for.
+fn put_short(frame: &mut [u8; 2 + SHORT], kind: OpCode, start: &[u8], rest: &[u8]) -> usize
+    requires { length start.now + length rest.now ≤ 125 }
+    ensures inside { result ≤ 127 }
+    ensures put { take result frame.new
+        ≡ encode_frame (whole_header kind None) (start.now ++ rest.now) }
+{
+    let middle = 2 + start.len();
+    let end = middle + rest.len();
+    frame[0] = 0x80 + u8::from(kind);
+    frame[1] = (end - 2) as u8;
+    frame[2..middle].copy_from_slice(start);
+    frame[middle..end].copy_from_slice(rest);
+    end
 }
 
 /// Writes all of these bytes to a stream. One that takes fewer than it is given has failed.
@@ -241,7 +275,7 @@ impl<S: Write> FrameSocket<S> {
             Some(received) => heard(self.alloc, received.message(&self.input)),
             None => Incoming::Control,
         };
-        self.input.drain(..step.consumed);
+        forget_first(&mut self.input, step.consumed);
         match write_whole(&mut self.stream, &self.output) {
             Ok(()) => Some(came),
             Err(fault) => Some(Incoming::Gone(fault)),
@@ -256,6 +290,11 @@ impl<S: Write> FrameSocket<S> {
             return Err(PeerFault::Device);
         }
         let length = start.len() + rest.len();
+        if length <= SHORT {
+            let mut frame = [0; 2 + SHORT];
+            let end = put_short(&mut frame, kind, start, rest);
+            return write_whole(&mut self.stream, &frame[..end]);
+        }
         self.output.clear();
         let head = FrameHeader::new(kind, None);
         if head.format(length as u64, &mut self.output).is_err()

@@ -152,12 +152,15 @@ abbrev pub farewell : Word → List Effect
 farewell word.Bye = effect.Disconnect ∷ []
 farewell _ = []
 
--- the effects of an event: where it was asked, the acknowledgement comes last
+-- the effects of an event with these texts: where it was asked, the acknowledgement comes last
 -- but for the disconnection
-abbrev pub effects_of : Who → Message → List Effect
-effects_of who m = listed (first_effect who (texts_of m.payload) m)
+abbrev pub effects_by : (texts : List (Option (List ℕ))) → Who → Message → List Effect
+effects_by texts who m = listed (first_effect who texts m)
     ++ answer (is_some m.id)
-    ++ farewell (word_in (texts_of m.payload))
+    ++ farewell (word_in texts)
+
+abbrev pub effects_of : Who → Message → List Effect
+effects_of who m = effects_by (texts_of m.payload) who m
 
 -- what the app decides: nothing but an event has effects
 abbrev pub decided : Who → Arrived → List Effect

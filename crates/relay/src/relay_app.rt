@@ -60,15 +60,28 @@ impl App for RelayApp {
 fn decide(alloc: Global, who: &Who, message: &Message) -> Wanted
     ensures { IfOk result (λ effects. effects.items ≡ table.effects_of who.now message.now) }
 {
-    let texts = texts_of(alloc, message.payload.as_str())?;
+    match message.payload.known_names() {
+        Some(texts) => effects_by(alloc, who, texts, message),
+        None => {
+            let texts = texts_of(alloc, message.payload.as_str())?;
+            effects_by(alloc, who, &texts, message)
+        }
+    }
+}
+
+/// The effects of an event with these texts among its elements.
+fn effects_by(alloc: Global, who: &Who, texts: &[Option<Text>], message: &Message) -> Wanted
+    ensures { IfOk result (λ effects.
+        effects.items ≡ table.effects_by texts.now who.now message.now) }
+{
     let mut effects = Vec::new(alloc);
-    if let Some(effect) = first_effect(alloc, who, &texts, message)? {
+    if let Some(effect) = first_effect(alloc, who, texts, message)? {
         effects.push(effect)?;
     }
     if message.id.is_some() {
         effects.push(reply(alloc)?)?;
     }
-    if word_in(&texts) == Word::Bye {
+    if matches!(word_in(texts), Word::Bye) {
         effects.push(Effect::Disconnect)?;
     }
     Ok(effects)
@@ -109,7 +122,7 @@ fn first_effect(
         }
         (Word::All, _, _) => emit(alloc, who, &[], &[], true, message)?,
         (Word::Ask, _, _) => Effect::EmitAsk(Inquiry {
-            payload: message.payload.clone()?,
+            payload: Text::copy_of(alloc, message.payload.as_str())?,
             attachments: message.attachments.clone()?,
             tag: 0,
             wait: 10_000,
@@ -154,7 +167,7 @@ fn emit(
         rooms: Vec::from_slice(alloc, rooms)?,
         excepted: Vec::from_slice(alloc, excepted)?,
         form: Form::Event { logged },
-        payload: message.payload.clone()?,
+        payload: Text::copy_of(alloc, message.payload.as_str())?,
         attachments: message.attachments.clone()?,
     }))
 }

@@ -1,5 +1,5 @@
 -- The tree that an array of texts alone is, and what reading its tokens one by one says.
-use Rattle.std.proofs.Common.{◌≡◌, ◌≢◌, ◌↔◌, ℕ, ◌-◌, ◌≤◌, List, [], ◌∷◌, length, map, Some, None, Ok, option_and_then, option_map, refl, sym, ◌∙◌, ap, arith, true≢false}
+use Rattle.std.proofs.Common.{◌≡◌, ◌≢◌, ◌↔◌, ℕ, ◌-◌, ◌≤◌, List, Option, Contains, [], ◌∷◌, length, map, Some, None, Ok, option_and_then, option_map, refl, sym, ◌∙◌, ap, arith, true≢false}
 use Rattle.json.specs.Token as token
 use Rattle.json.specs.Lex.{lex, punctuate}
 use Rattle.json.specs.Json as json
@@ -9,8 +9,8 @@ use Rattle.serde_json.specs.Data.{string, array, Items, no_items, item}
 use Rattle.serde_json.specs.Read.{of_json, of_items, read}
 use Rattle.sio_wire.specs.declared.header.Header.{Header}
 use Rattle.sio_wire.specs.JsonFields.{texts_of, names_in, names_at}
-use Rattle.sio_wire.specs.Shape.{HasPayload}
-use Rattle.sio_wire.specs.Texts.{text_tokens, IsArrayOf, EndsInTexts, IsPlainEvent}
+use Rattle.sio_wire.specs.Shape.{HasPayload, reserved_names}
+use Rattle.sio_wire.specs.Texts.{text_tokens, AreAlone, BeginsWithName, IsArrayOf, EndsInTexts, HasPlainNames}
 
 -- these texts, as the elements of an array in the grammar of `json`
 abbrev json_items : List (List ℕ) → json.Items
@@ -50,23 +50,30 @@ read_texts payload texts is =
 pub names_at-texts : (payload : List ℕ) (texts : List (List ℕ)) → IsArrayOf texts payload → names_at payload ≡ Ok (map Some texts)
 names_at-texts payload texts is = ap names_in (read_texts payload texts is) ∙ ap Ok (texts_of-text_items texts)
 
+-- the same of texts that are the only ones
+pub names_at-alone : (payload : List ℕ) (names : List (Option (List ℕ))) → AreAlone names payload → names_at payload ≡ Ok names
+names_at-alone payload names alone = names_at-texts payload alone.0 alone.1 ∙ ap Ok (sym alone.2)
+
 some_text : (payload : List ℕ) (texts : List (List ℕ)) → IsArrayOf texts payload → payload ≢ []
 unfolding lex punctuate
 some_text [] texts is = absurd (cc)
 some_text (byte ∷ bytes) texts is = λ e. cc
 
-pub HasPayload-plain : (header : Header) → IsPlainEvent header → HasPayload header
-HasPayload-plain header plain =
-    let begins = plain.2.1 in
-    let ends = plain.2.2 in
-    let texts = begins.0 ∷ ends.0 in
-    let is : IsArrayOf texts header.payload =
-    begins.2 ∙ ap (λ rest. token.begin_array ∷ token.string begins.0 ∷ rest) ends.1 in (
+first_name : (names : List (Option (List ℕ))) (texts : List (List ℕ)) → names ≡ map Some texts → BeginsWithName names
+    → (name : List ℕ) × (rest : List (List ℕ)) × (texts ≡ name ∷ rest) × (¬ Contains reserved_names name)
+first_name names [] same named = absurd (cc (same, named.2))
+first_name names (text ∷ texts) same named = let first : text ≡ named.0 = cc (same, named.2) in (text, texts, refl, rw first named.3)
+
+pub HasPayload-plain : (header : Header) (names : List (Option (List ℕ))) → HasPlainNames header names → HasPayload header
+HasPayload-plain header names plain =
+    let texts = plain.alone.0 in
+    let begins = first_name names texts plain.alone.2 plain.named in
+    let read = read_texts header.payload texts plain.alone.1 in (
       Some (array (text_items texts)),
-      (plain.1, some_text header.payload texts is, read_texts header.payload texts is),
-      rw plain.0 refl,
-      λ reserved. begins.1 reserved.1,
-      λ binary. absurd (true≢false (sym (rw plain.0 at binary))),
+      (plain.whole, some_text header.payload texts plain.alone.1, read),
+      rw (plain.event, begins.2) refl,
+      λ reserved. begins.3 (rw begins.2 at reserved.1),
+      λ binary. absurd (true≢false (sym (rw plain.event at binary))),
     )
 
 -- ---- token by token

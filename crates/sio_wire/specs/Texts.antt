@@ -1,5 +1,5 @@
 -- The arrays that have nothing but texts in them, and the events that have such a payload.
-use Rattle.std.specs.Prelude.{◌≡◌, ℕ, List, [], ◌∷◌, Contains}
+use Rattle.std.specs.Prelude.{◌≡◌, ℕ, List, [], ◌∷◌, Contains, Option, Some, map}
 use Rattle.json.specs.Token.{Token, begin_array, end_array, string}
 use Rattle.json.specs.Lex.{tokens}
 use Rattle.sio_wire.specs.declared.header.Kind.TheVariants.{Event}
@@ -15,16 +15,28 @@ text_tokens (text ∷ texts) = string text ∷ text_tokens texts
 abbrev pub IsArrayOf : List (List ℕ) → List ℕ → Type 0
 IsArrayOf texts payload = tokens payload ≡ begin_array ∷ text_tokens texts
 
--- an array begins, with a name that events may have; the rest follows
-abbrev pub BeginsWithName : List Token → List Token → Type 0
-BeginsWithName ts rest = (name : List ℕ) × (¬ Contains reserved_names name)
-    × (ts ≡ begin_array ∷ string name ∷ rest)
-
 -- only texts are left in the array, and nothing behind it
 abbrev pub EndsInTexts : List Token → Type 0
 EndsInTexts rest = (texts : List (List ℕ)) × (rest ≡ text_tokens texts)
 
--- an event with a name and other texts in its payload, but no U+001E
+-- these are the texts of the array that the payload is
+abbrev pub AreAlone : List (Option (List ℕ)) → List ℕ → Type 0
+AreAlone names payload =
+    (texts : List (List ℕ)) × IsArrayOf texts payload × (names ≡ map Some texts)
+
+-- the first is a text, and a name that events may have
+abbrev pub BeginsWithName : List (Option (List ℕ)) → Type 0
+BeginsWithName names =
+    (name : List ℕ) × (rest : List (Option (List ℕ))) × (names ≡ Some name ∷ rest)
+    × (¬ Contains reserved_names name)
+
+-- these are the texts of an event that has nothing else in its payload, no U+001E, and a free name
+pub record HasPlainNames (h : Header) (names : List (Option (List ℕ))) : Type 0 where
+  pub event : h.kind ≡ Event
+  pub whole : ¬ Contains h.payload 30
+  pub alone : AreAlone names h.payload
+  pub named : BeginsWithName names
+
+-- an event that has such texts
 abbrev pub IsPlainEvent : Header → Type 0
-IsPlainEvent h = (h.kind ≡ Event) × (¬ Contains h.payload 30)
-    × ((rest : List Token) × BeginsWithName (tokens h.payload) rest × EndsInTexts rest)
+IsPlainEvent h = (names : List (Option (List ℕ))) × HasPlainNames h names

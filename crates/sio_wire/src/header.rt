@@ -14,6 +14,7 @@ ghost use Rattle.sio_wire.specs.Disconnect as disconnect;
 ghost use Rattle.sio_wire.specs.Offset.{is_bracket, offset_digits, payload_with_offset};
 
 use crate::error::SioError;
+use crate::payload::Payload;
 use crate::tree::check_payload;
 use serde_json::Value;
 use std::alloc::{AllocError, Global};
@@ -71,7 +72,7 @@ pub struct Header {
     /// The acknowledgement id, where the sender asks for an answer or gives one.
     pub id: Option<u64>,
     /// The JSON text as it came, empty where there is none.
-    pub payload: Text,
+    pub payload: Payload,
     /// How many attachments follow, 0 where the type has none.
     pub count: u32,
 }
@@ -84,8 +85,8 @@ pub fn read_header(alloc: Global, text: &str) -> Result<Header, SioError>
     ensures fault { IfErr result (λ e. (e ≡ SioError.Memory) ⊎ HasFault text.now e) }
     ensures refused { IfErr result (λ e. (e ≡ SioError.Memory) ⊎ SpellsNothing text.now) }
 {
-    let header = scan(alloc, text)?;
-    check_payload(alloc, &header)?;
+    let mut header = scan(alloc, text)?;
+    check_payload(alloc, &mut header)?;
     Ok(header)
 }
 
@@ -103,7 +104,7 @@ fn scan(alloc: Global, text: &str) -> Result<Header, SioError>
         kind,
         space: Text::copy_of(alloc, space)?,
         id,
-        payload: Text::copy_of(alloc, payload)?,
+        payload: Payload::of(Text::copy_of(alloc, payload)?),
         count,
     })
 }
@@ -221,12 +222,17 @@ fn after_first(text: &str) -> &str
     &text[1..]
 }
 
+/// For how many bytes before a payload there is room at once.
+const FRONT: usize = 32;
+
 /// The plain text of a header, its fields as they are: no leading zeros, no namespace `/`.
 pub fn write_header(alloc: Global, header: &Header) -> Result<String, SioError>
     ensures ok { IfOk result (λ t. Plain header.now (string_bytes t)) }
     ensures err { IfErr result (λ e. e ≡ SioError.Memory) }
 {
-    let mut text = String::from_str(alloc, header.kind.digit())?;
+    let payload = header.payload.as_str();
+    let mut text = String::with_capacity(alloc, payload.len() + FRONT)?;
+    text.push_str(header.kind.digit())?;
     if header.kind.is_binary() {
         let count = header.count;
         write!(text, "{count}-")?;
@@ -235,7 +241,7 @@ pub fn write_header(alloc: Global, header: &Header) -> Result<String, SioError>
     if let Some(id) = header.id {
         write!(text, "{id}")?;
     }
-    text.push_str(header.payload.as_str())?;
+    text.push_str(payload)?;
     Ok(text)
 }
 
@@ -320,7 +326,12 @@ pub fn with_offset(alloc: Global, payload: &str, offset: u64) -> Result<String, 
     let mut digits = [0u8; 16];
     write_digits(u128::from(offset), &mut digits);
     let digits = ascii_text(&digits);
-    Ok(format!(in alloc; "{front},\"{digits}\"]")?)
+    let mut text = String::with_capacity(alloc, payload.len() + 19)?;
+    text.push_str(front)?;
+    text.push_str(",\"")?;
+    text.push_str(digits)?;
+    text.push_str("\"]")?;
+    Ok(text)
 }
 
 /// The offset that has these digits.

@@ -5,6 +5,7 @@
 mod assembler;
 mod error;
 mod header;
+mod payload;
 mod tree;
 
 pub use assembler::{Assembler, Progress, SioPacket, frames_cut_once};
@@ -13,4 +14,5 @@ pub use header::{
     Header, Kind, connected_text, disconnect_text, header_faults, header_texts, read_header,
     read_offset, refused_text, with_offset, write_header,
 };
+pub use payload::Payload;
 pub use tree::{Resume, names, resume_of};

@@ -11,7 +11,7 @@ ghost use Rattle.sio_wire.specs.JsonFields.{texts_of, names_at, resume_at};
 ghost use Rattle.sio_wire.specs.Faults.{Checks};
 ghost use Rattle.sio_wire.specs.Placeholders.{IsPlaceholder, HasNumberBelow, Placed};
 ghost use Rattle.sio_wire.specs.Shape.{IsTree, IsNoTree, has_shape, HasReservedName, IsPlaced, reserved_names};
-ghost use Rattle.sio_wire.specs.Texts.{text_tokens, IsArrayOf, BeginsWithName, EndsInTexts, IsPlainEvent};
+ghost use Rattle.sio_wire.specs.Texts.{text_tokens, AreAlone, IsArrayOf, BeginsWithName, EndsInTexts, HasPlainNames, IsPlainEvent};
 
 use crate::error::SioError;
 use crate::header::{Header, Kind};
@@ -52,7 +52,7 @@ pub fn names(alloc: Global, payload: &str) -> Result<Vec<Option<Text>>, SioError
 fn texts_alone(alloc: Global, payload: &str) -> Result<Option<Vec<Option<Text>>>, AllocError>
     ensures { IfOk result (λ found. MatchOption found
         ((texts : List (List ℕ)) → ¬ IsArrayOf texts payload.now)
-        (λ names. names_at payload.now ≡ Ok names.items)) }
+        (λ names. AreAlone names.items payload.now)) }
 {
     let mut scratch = Scratch::new(alloc);
     let mut reader = Reader::new(payload, &mut scratch)?;
@@ -139,11 +139,14 @@ pub fn resume_of(alloc: Global, payload: &str) -> Result<Option<Resume>, SioErro
     }
 }
 
-/// Looks at the payload of a header whose parts were read.
-pub(crate) fn check_payload(alloc: Global, header: &Header) -> Result<(), SioError>
-    ensures { Checks header.now result }
+/// Looks at the payload of a header whose parts were read. Where it is a plain event, as most are,
+/// its texts are known then, and no tree is needed.
+pub(crate) fn check_payload(alloc: Global, header: &mut Header) -> Result<(), SioError>
+    ensures checked { Checks header.old result }
+    ensures same { header.new ≡ header.old }
 {
-    if is_plain_event(alloc, header)? {
+    if let Some(names) = plain_names(alloc, header)? {
+        header.payload.know(names);
         return Ok(());
     }
     let tree = read_tree(alloc, header.payload.as_str())?;
@@ -159,46 +162,34 @@ pub(crate) fn check_payload(alloc: Global, header: &Header) -> Result<(), SioErr
     Ok(())
 }
 
-/// Whether this is an event that has nothing but texts in its payload, and a name that is free.
-/// Most events are, and are looked at without a tree.
-fn is_plain_event(alloc: Global, header: &Header) -> Result<bool, AllocError>
-    ensures { IfOk result (λ plain. IsTrue plain ↔ IsPlainEvent header.now) }
+/// The texts of a plain event: one that has nothing else in its payload, and a name that is free.
+fn plain_names(alloc: Global, header: &Header) -> Result<Option<Vec<Option<Text>>>, AllocError>
+    ensures { IfOk result (λ found. MatchOption found (¬ IsPlainEvent header.now)
+        (λ names. HasPlainNames header.now names.items)) }
 {
     let payload = header.payload.as_str();
     // U+001E separates packets in a polling payload.
     if header.kind != Kind::Event || payload.as_bytes().contains(&0x1e) {
-        return Ok(false);
+        return Ok(None);
     }
-    let mut scratch = Scratch::new(alloc);
-    let mut reader = Reader::new(payload, &mut scratch)?;
-    Ok(begins_with_name(&mut reader) && ends_in_texts(&mut reader))
-}
-
-/// Reads the bracket that opens an array, and the text behind it. Whether these are there, and the
-/// text is a name that events may have.
-fn begins_with_name(reader: &mut Reader<'_>) -> bool
-    ensures { MatchBool result (BeginsWithName reader.old reader.new)
-        ((rest : List SpecToken) → ¬ BeginsWithName reader.old rest) }
-{
-    let Some(Token::BeginArray) = reader.next() else {
-        return false;
+    let Some(names) = texts_alone(alloc, payload)? else {
+        return Ok(None);
     };
-    match next_text(reader) {
-        Some(name) => !is_reserved_name(name),
-        None => false,
+    if begins_with_name(&names) {
+        Ok(Some(names))
+    } else {
+        Ok(None)
     }
 }
 
-/// Whether only texts are left in the array, and nothing behind it.
-fn ends_in_texts(reader: &mut Reader<'_>) -> bool
-    ensures { IsTrue result ↔ EndsInTexts reader.old }
+/// Whether the first of these is a text, and a name that events may have.
+fn begins_with_name(names: &[Option<Text>]) -> bool
+    ensures { IsTrue result ↔ BeginsWithName names.now }
 {
-    'texts: while !reader.take_end_array() {
-        let Some(_) = next_text(reader) else {
-            return false;
-        };
+    match names.first() {
+        Some(Some(name)) => !is_reserved_name(name.as_str()),
+        _ => false,
     }
-    reader.next().is_none()
 }
 
 /// The JSON tree of a payload; none for the empty text.

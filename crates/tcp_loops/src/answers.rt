@@ -122,7 +122,7 @@ impl<R: Wait + Clock + Copy + Drop, L: Log> Driver<'_, R, L> {
         if !self.connections.slots.contains(key) {
             return;
         }
-        let client = self.connections.links.link(key).client;
+        let client = self.connections.links.client(key);
         let rests = client.is_some_and(|client| self.shown.rests(client));
         let before = self.connections.seen(key).unsent;
         let what = self.connections.hear(key, got, rests, now);
@@ -171,10 +171,10 @@ impl<R: Wait + Clock + Copy + Drop, L: Log> Driver<'_, R, L> {
     {
         let (base, now) = (self.base, self.round.now);
         let links = &mut self.connections.links;
-        let link = links.link(key);
-        let Some(client) = link.client else {
+        let Some(client) = links.client(key) else {
             return;
         };
+        let is_socket = links.course(key).is_socket();
         links.note_answer(client, got, now);
         // Where it takes is asked only of what was worked on.
         let is_taker = matches!(got, Ok(Outcome::Done(_))) && links.is_taker(key);
@@ -182,7 +182,7 @@ impl<R: Wait + Clock + Copy + Drop, L: Log> Driver<'_, R, L> {
         links.wake_for(self.number, base.rules.loops, got, &mut self.notes);
         links.heed(key, client, concern, now);
         self.notes.everyone |= concern.hides_whom();
-        if let Some(fate) = Fate::of(got, concern, link.course.is_socket()) {
+        if let Some(fate) = Fate::of(got, concern, is_socket) {
             base.note(client, fate, now);
         }
     }

@@ -196,7 +196,7 @@ impl<'a, R: Clock + Drop> Connections<'a, R> {
         ensures others { OnlyAt key self.old self.new }
         ensures takers { self.new.links.roster.takers ≡ self.old.links.roster.takers }
     {
-        let (alloc, is_post) = (self.alloc, self.links.link(key).course.is_post());
+        let (alloc, is_post) = (self.alloc, self.links.course(key).is_post());
         let Some(connection) = self.slots.get_mut(key) else {
             return Came::Nothing(Do::Rest(Pause::Done));
         };

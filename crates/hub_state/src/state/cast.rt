@@ -31,7 +31,7 @@ use crate::state::{NONE, Result, State};
 use journal::{Broadcast, Cast, CastDone, Counts, Form, HubError, Message, Socket, What};
 use recovery::{Logged, PacketLog};
 use room_maps::Rooms;
-use sio_wire::{Header, with_offset, write_header};
+use sio_wire::{Header, Payload, with_offset, write_header};
 use std::alloc::{AllocError, Global};
 use std::sync::Arc;
 use terms::{Attachments, Entry, Room, Sid, Text};
@@ -425,7 +425,7 @@ impl State {
             kind: form.kind(attachments.len()),
             space: Text::copy_of(alloc, self.name_at(usize::from(place)))?,
             id: form.id(),
-            payload: payload_of(alloc, payload, offset)?,
+            payload: Payload::of(payload_of(alloc, payload, offset)?),
             count: attachments.len() as u32,
         };
         let text = write_header(alloc, &header).map_err(|_| AllocError)?;

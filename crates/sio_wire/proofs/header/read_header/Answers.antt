@@ -16,4 +16,4 @@ pub returns-in_err-check_payload-clause-refused : goal.returns-in_err-check_payl
 returns-in_err-check_payload-clause-refused c = refused_by_fault _ _ (search rules)
 
 pub returns-clause-ok : goal.returns-clause-ok
-returns-clause-ok c = Sio-header_at _ _ c.in_ok-header.ensures.ok c.in_ok-check_payload.ensures
+returns-clause-ok c = rw c.in_ok-check_payload.ensures.same (Sio-header_at _ _ c.in_ok-header.ensures.ok c.in_ok-check_payload.ensures.checked)

@@ -1,12 +1,8 @@
-use Rattle.std.proofs.Common.{◌≡◌, ◌++◌, List, ℕ, Some, None, take, arith, ◌∙◌, sym, lit<, refl, append_assoc}
-use Rattle.std.specs.Prelude.{codes}
+use Rattle.std.proofs.Common.{◌≡◌, Some, None, take, arith, ◌∙◌, sym, lit<, refl}
 use Rattle.std.proofs.lemmas.Str.Pattern.{rfind_char}
 use Rattle.terms.proofs.HexadecimalLemmas.{IsAscii-hex_digits}
 use Rattle.sio_wire.proofs.OffsetLemmas.{no_bracket, before_last_bracket}
 use Rattle.sio_wire.proofs.header.with_offset.Goals as goal
-
-four_parts : (a b c d : List ℕ) → a ++ b ++ c ++ d ≡ a ++ (b ++ (c ++ d))
-four_parts a b c d = simp append_assoc
 
 pub returns-in-None-clause-bad_shape : goal.returns-in-None-clause-bad_shape
 returns-in-None-clause-bad_shape c = (λ _. no_bracket _ (rfind_char 93 c.args.payload.now None c.in-None.ensures.cases (lit< tt)), λ _. refl)
@@ -19,4 +15,14 @@ returns-clause-ok c =
     let last = rfind_char 93 c.args.payload.now (Some c.in-Some.last) c.in-Some.ensures.cases (lit< tt) in
     let cut : c.range-front.result.now ≡ take c.in-Some.last c.args.payload.now = grind (arith, c.range-front.ensures.value) in
     let front = cut ∙ sym (before_last_bracket _ _ last.0 last.1 last.2) in
-    c.in_ok-format.ensures.ok ∙ rw (front, c.ascii_text-digits.ensures, c.write_digits.ensures, c.from.ensures) (sym (four_parts _ (codes ",\"") _ (codes "\"]")))
+    rw (
+      c.in_ok-push_str-4.ensures.bytes,
+      c.in_ok-push_str-3.ensures.bytes,
+      c.in_ok-push_str-2.ensures.bytes,
+      c.in_ok-push_str.ensures.bytes,
+      c.in_ok-text.ensures.bytes,
+      front,
+      c.ascii_text-digits.ensures,
+      c.write_digits.ensures,
+      c.from.ensures,
+    ) refl
