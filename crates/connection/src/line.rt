@@ -13,7 +13,7 @@ ghost use Rattle.connection.specs.History.{Call, Ticked, Ponged, Probed, Upgrade
 ghost use Rattle.connection.specs.Line.{PlainLine, LeadsTo, ForEachHistory, HasHistory, Advances, Hears, StepsBy};
 
 use crate::{AckBook, AckError, Clock, ClockError, Due, Timing, Transport, ack_book};
-use sio_wire::{Assembler, SioError, SioPacket};
+use sio_wire::{Assembler, Scratch, SioError, SioPacket};
 use std::alloc::Global;
 use std::collections::BTreeMap;
 use std::marker::Model;
@@ -92,11 +92,16 @@ impl Line {
     /// The client sent a message of text. Gives the packet that it makes whole, in whose namespace
     /// and payload U+001E stands nowhere. After an error other than `Memory` the assembler has
     /// failed, and each further frame is answered with that error.
-    pub fn text(&mut self, alloc: Global, text: &str) -> Result<Option<SioPacket>, SioError>
+    pub fn text(
+        &mut self,
+        alloc: Global,
+        scratch: &mut Scratch,
+        text: &str,
+    ) -> Result<Option<SioPacket>, SioError>
         ensures { Hears (text_frame text.now) (RefusesText self.old.assembler text.now)
             self.old result self.new }
     {
-        self.assembler.text(alloc, text)
+        self.assembler.text(alloc, scratch, text)
     }
 
     /// The client sent a message of bytes. As `text`.

@@ -1,9 +1,7 @@
 -- What a core holds: the hub's history, and a line for each client that is open.
-use Rattle.std.specs.Prelude.{◌≡◌, ℕ, ◌==◌, false, List, [], Option, None, Some, is_some}
-use Rattle.std.specs.Ordering.{nat_cmp}
+use Rattle.std.specs.Prelude.{◌≡◌, ℕ, ◌==◌, nat_eq, false, List, [], Option, None, Some, is_some}
 use Rattle.std.specs.List.{AllByRecursion}
 use Rattle.std.specs.Map.{lookup}
-use Rattle.std.specs.BTreeMap.{is_at}
 use Rattle.eio_wire.specs.Payload.{IsWhole}
 use Rattle.connection.specs.Line.{PlainLine}
 use Rattle.journal.specs.Plain.{Limits}
@@ -36,7 +34,7 @@ IsNew config told core pass = (core ≡ new_core config told) × (pass ≡ new_p
 
 -- the client's line
 abbrev pub line_of : List (ℕ × PlainLine) → ℕ → Option PlainLine
-line_of lines c = lookup (is_at (nat_cmp c)) lines
+line_of lines c = lookup (nat_eq c) lines
 
 -- the hub's history and the clients' lines
 pub record Holding : Type 0 where

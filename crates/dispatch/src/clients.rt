@@ -23,8 +23,9 @@ use eio_wire::{Numbers, Packet, WireError, open_text, read_packet};
 use events::{Answered, App, Cause, CoreFault, Done, Frames, IdSource, Opening, Outcome, WsFrame};
 use hub_state::State;
 use journal::HubError;
+use sio_wire::Scratch;
 use std::alloc::Global;
-use std::collections::BTreeMap;
+use std::collections::HashMap;
 use std::slice;
 use terms::Text;
 
@@ -32,7 +33,7 @@ use terms::Text;
 const LONGEST_FRAME: usize = 1_000_000;
 
 /// The lines of the open clients, by their ids.
-pub(crate) type Lines = BTreeMap<u128, Line>;
+pub(crate) type Lines = HashMap<u128, Line>;
 
 /// What each new client is told, and by which times it is closed.
 #[derive(Drop)]
@@ -117,6 +118,7 @@ pub(crate) fn work_on<A: App, I: IdSource>(
     lines: &mut Lines,
     app: &A,
     ids: &mut I,
+    scratch: &mut Scratch,
     packets: &[Packet],
 ) -> Answered
     requires agree { Agree state.old lines.old.entries }
@@ -135,6 +137,7 @@ pub(crate) fn work_on<A: App, I: IdSource>(
         state,
         line,
         tally: &mut tally,
+        scratch,
     };
     handle_each(&mut scene, app, ids, packets)?;
     tally.done.unfinished = scene.line.held();
@@ -174,6 +177,7 @@ pub(crate) fn receive<A: App, I: IdSource>(
     lines: &mut Lines,
     app: &A,
     ids: &mut I,
+    scratch: &mut Scratch,
     frame: &WsFrame,
 ) -> Answered
     requires { Agree state.old lines.old.entries }
@@ -190,7 +194,10 @@ pub(crate) fn receive<A: App, I: IdSource>(
         return close_unread(visit, state, lines, Cause::TooLong);
     }
     match read_frame(visit.alloc, frame) {
-        Ok(packet) => work_on(visit, state, lines, app, ids, slice::from_ref(&packet)),
+        Ok(packet) => {
+            let packets = slice::from_ref(&packet);
+            work_on(visit, state, lines, app, ids, scratch, packets)
+        }
         Err(WireError::Memory) => Err(CoreFault::Memory.at_once()),
         Err(fault) => close_unread(visit, state, lines, Cause::of_wire(fault)),
     }

@@ -20,15 +20,16 @@ ghost use Rattle.dispatch.specs.Machine.{Row, Does, IsOf, listed};
 use crate::clients::{self, Handshake, Lines, transport_of};
 use crate::hearing::hear_after;
 use crate::polling;
-use crate::scene::Call;
+use crate::scene::{Call, Means};
 use connection::{Timing, Transport};
 use eio_wire::Numbers;
 use events::{Answered, App, CoreError, CoreFault, Event, IdSource};
 use hub_state::State;
 use hub_totals::{Hub, NotAll, Pass};
 use journal::{Config, Epoch, HubError, Totals};
-use std::alloc::Global;
-use std::collections::BTreeMap;
+use sio_wire::Scratch;
+use std::alloc::{AllocError, Global};
+use std::collections::HashMap;
 use std::marker::Model;
 use std::sync::ledger::{Blank, Ledger};
 use terms::let_go;
@@ -40,12 +41,14 @@ pub struct Core<C: Ledger, T: Ledger> {
     hub: Hub<C, T>,
     lines: Lines,
     told: Handshake,
+    // One is kept, since it is large, and is cleared where it is made.
+    scratch: Box<Scratch>,
 }
 
 /// Written out, so that a crate above takes the drop of all that lies in it by this one call.
 impl<C: Ledger, T: Ledger> Drop for Core<C, T> {
     fn drop(self) {
-        let_go!(self; hub, lines, told);
+        let_go!(self; hub, lines, told, scratch);
     }
 }
 
@@ -81,10 +84,21 @@ impl<C: Ledger, T: Ledger> Core<C, T> {
         ensures handed { IfOk result (λ made. (c : ℕ) → Handed c [] made.0.hub.history) }
         ensures err { IfErr result (λ e. e ≡ at_once (fault_of_config (config_refusal config))) }
     {
-        let lines = BTreeMap::new(alloc);
+        let lines = HashMap::new(alloc);
         let told = Handshake { timing, numbers };
         match Hub::new(alloc, config, commands, taken) {
-            Ok((hub, pass)) => Ok((Core { hub, lines, told }, pass)),
+            Ok((hub, pass)) => match Box::new(alloc, Scratch::new(alloc)) {
+                Ok(scratch) => Ok((
+                    Core {
+                        hub,
+                        lines,
+                        told,
+                        scratch,
+                    },
+                    pass,
+                )),
+                Err(_) => Err(CoreFault::Memory.at_once()),
+            },
             Err(HubError::BadConfig) => Err(CoreFault::BadConfig.at_once()),
             Err(_) => Err(CoreFault::Memory.at_once()),
         }
@@ -115,9 +129,15 @@ impl<C: Ledger, T: Ledger> Core<C, T> {
     {
         let before = self.hub.state.totals();
         let call = Call { alloc, moment: now };
-        let Core { hub, lines, told } = self;
+        let Core {
+            hub,
+            lines,
+            told,
+            scratch,
+        } = self;
         let ended = hub.state.ended_sockets().len();
-        let said = do_row(call, &mut hub.state, lines, told, app, event, ids);
+        let means = Means { call, scratch };
+        let said = do_row(means, &mut hub.state, lines, told, app, event, ids);
         let answer = hear_after(call, &mut hub.state, app, event.client(), ended, said);
         hub.books.catch_up(pass, &before, &hub.state);
         answer
@@ -155,8 +175,12 @@ impl<C: Ledger, T: Ledger> Core<C, T> {
             IfOk result (λ clients. ListsRising nat_cmp (is_open h.base h.journal) clients.items) }
         ensures err { IfErr result (λ e. e ≡ at_once CoreFault.Memory) }
     {
-        let clients = self.lines.keys().copied().collect(alloc);
-        clients.or(Err(CoreFault::Memory.at_once()))
+        let listed: Result<Vec<u128>, AllocError> = self.lines.keys().copied().collect(alloc);
+        let Ok(mut clients) = listed else {
+            return Err(CoreFault::Memory.at_once());
+        };
+        clients.sort_unstable();
+        Ok(clients)
     }
 
     /// How many clients are open: each has a line.
@@ -212,7 +236,7 @@ impl<C: Ledger, T: Ledger> Core<C, T> {
 /// Does what an event does to the hub's state and to the clients' lines, before the app hears of
 /// the sockets that it ended.
 fn do_row<A: App, I: IdSource>(
-    call: Call,
+    means: Means<'_>,
     state: &mut State,
     lines: &mut Lines,
     handshake: &Handshake,
@@ -222,32 +246,50 @@ fn do_row<A: App, I: IdSource>(
 ) -> Answered
     requires agree { Agree state.old lines.old.entries }
     requires clean { IsClean state.old }
-    ensures { Row (A.policy app.now) handshake.now call.moment event.now
+    ensures { Row (A.policy app.now) handshake.now means.entry.call.moment event.now
         (standing state.old lines.old.entries (I.stream ids.old)) result
         (standing state.new lines.new.entries (I.stream ids.new)) }
 {
     match event {
         Event::Opened { socket } => {
-            let visit = call.of(ids.draw());
+            let visit = means.call.of(ids.draw());
             clients::open(visit, state, lines, handshake, *socket)
         }
         Event::Post { client, body } => {
-            polling::post(call.of(*client), state, lines, app, ids, body.as_str())
+            polling::post(
+                means.call.of(*client),
+                state,
+                lines,
+                app,
+                ids,
+                means.scratch,
+                body.as_str(),
+            )
         }
         Event::Frame { client, frame } => {
-            clients::receive(call.of(*client), state, lines, app, ids, frame)
+            clients::receive(
+                means.call.of(*client),
+                state,
+                lines,
+                app,
+                ids,
+                means.scratch,
+                frame,
+            )
         }
-        Event::PollBegin { client } => polling::begin(call.of(*client), state, lines),
-        Event::PollEnd { client } => polling::end(call.alloc, lines, *client),
-        Event::PollTake { client, most } => { polling::take(call.of(*client), state, lines, *most) }
+        Event::PollBegin { client } => polling::begin(means.call.of(*client), state, lines),
+        Event::PollEnd { client } => polling::end(means.call.alloc, lines, *client),
+        Event::PollTake { client, most } => {
+            polling::take(means.call.of(*client), state, lines, *most)
+        }
         Event::FrameTake { client, most } => {
-            clients::take(call.of(*client), state, lines, *most)
+            clients::take(means.call.of(*client), state, lines, *most)
         }
-        Event::Probe { client } => polling::probe(call.alloc, lines, *client),
-        Event::Upgraded { client } => polling::upgrade(call.alloc, lines, *client),
-        Event::ProbeLost { client } => polling::probe_lost(call.alloc, lines, *client),
-        Event::TransportLost { client } => clients::lose(call.of(*client), state, lines),
-        Event::Tick { client } => clients::tick(call.of(*client), state, lines),
-        Event::Sweep => clients::sweep(call, state),
+        Event::Probe { client } => polling::probe(means.call.alloc, lines, *client),
+        Event::Upgraded { client } => polling::upgrade(means.call.alloc, lines, *client),
+        Event::ProbeLost { client } => polling::probe_lost(means.call.alloc, lines, *client),
+        Event::TransportLost { client } => clients::lose(means.call.of(*client), state, lines),
+        Event::Tick { client } => clients::tick(means.call.of(*client), state, lines),
+        Event::Sweep => clients::sweep(means.call, state),
     }
 }

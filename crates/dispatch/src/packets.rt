@@ -383,7 +383,9 @@ fn handle<A: App, I: IdSource>(scene: &mut Scene, app: &A, ids: &mut I, packet: 
             Ok(())
         }
         Packet::Message(text) => {
-            let given = scene.line.text(scene.visit.alloc, text.as_str());
+            let given = scene
+                .line
+                .text(scene.visit.alloc, scene.scratch, text.as_str());
             go_on(scene, app, ids, given)
         }
         // Attachments of more bytes than may wait for the client aren't kept.

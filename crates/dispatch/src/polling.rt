@@ -24,6 +24,7 @@ use connection::{ClockError, Line, Transport};
 use eio_wire::{Packet, WireError, read_payload, write_payload};
 use events::{Answered, App, Cause, CoreFault, Done, IdSource, Outcome};
 use hub_state::{Outbox, State, free_after};
+use sio_wire::Scratch;
 use std::alloc::{AllocError, Global};
 use std::slice;
 use std::sync::Arc;
@@ -42,6 +43,7 @@ pub(crate) fn post<A: App, I: IdSource>(
     lines: &mut Lines,
     app: &A,
     ids: &mut I,
+    scratch: &mut Scratch,
     body: &str,
 ) -> Answered
     requires { Agree state.old lines.old.entries }
@@ -55,7 +57,10 @@ pub(crate) fn post<A: App, I: IdSource>(
         Some(_) => {}
     }
     match read_payload(visit.alloc, body) {
-        Ok(packets) => work_on(visit, state, lines, app, ids, packets.as_slice()),
+        Ok(packets) => {
+            let packets = packets.as_slice();
+            work_on(visit, state, lines, app, ids, scratch, packets)
+        }
         Err(WireError::Memory) => Err(CoreFault::Memory.at_once()),
         Err(fault) => close_unread(visit, state, lines, Cause::of_wire(fault)),
     }

@@ -8,6 +8,7 @@ use connection::Line;
 use events::{Cause, CoreFault, Done};
 use hub_state::State;
 use room_maps::RoomError;
+use sio_wire::Scratch;
 use std::alloc::Global;
 
 /// What comes of a command or an effect: it was done, or why it wasn't.
@@ -18,6 +19,13 @@ pub(crate) type Acted = Result<(), CoreFault>;
 pub(crate) struct Call {
     pub(crate) alloc: Global,
     pub(crate) moment: u64,
+}
+
+/// The same, and the memory in which the texts of an event are read.
+#[derive(Drop)]
+pub(crate) struct Means<'a> {
+    pub(crate) call: Call,
+    pub(crate) scratch: &'a mut Scratch,
 }
 
 /// The same of an event of this client.
@@ -128,4 +136,6 @@ pub(crate) struct Scene<'a> {
     pub(crate) state: &'a mut State,
     pub(crate) line: &'a mut Line,
     pub(crate) tally: &'a mut Tally,
+    /// The memory that its texts are read in.
+    pub(crate) scratch: &'a mut Scratch,
 }

@@ -1,8 +1,9 @@
 -- What a step adds to the sockets that ended.
-use Rattle.std.proofs.Common.{◌≡◌, ℕ, Bool, true, false, List, [], ◌++◌, ◌∷◌, refl, sym, ap, subst, ◌∙◌, append-nil, Option, None, Some, if◌then◌else◌}
+use Rattle.hub_state.specs.Seats.{seat_at}
+use Rattle.std.proofs.Common.{◌≡◌, ℕ, Bool, true, false, List, [], ◌++◌, ◌∷◌, refl, sym, ap, subst, ◌∙◌, append-nil, Option, None, Some, if◌then◌else◌, nat_eq}
 use Rattle.std.specs.List.{AllByRecursion}
 use Rattle.std.specs.Ordering.{nat_cmp}
-use Rattle.std.specs.BTreeMap.{get}
+use Rattle.std.specs.HashMap.{get}
 use Rattle.std.specs.BTreeSet as sorted
 use Rattle.journal.specs.declared.step.Step.{Step}
 use Rattle.journal.specs.declared.socket.Socket.{Socket}
@@ -23,7 +24,7 @@ use Rattle.hub_state.specs.Inside.{Describes}
 
 -- what the state says beside it
 pub hub-of : (h : Inside) → Describes h
-    → IsHub h.base h.limits (get nat_cmp h.clients) (get nat_cmp h.live.seats) (sorted.contains nat_cmp h.live.pids) h.live.rooms h.saved h.log h.records.last h.records.counts (h.records.steps.steps)
+    → IsHub h.base h.limits (get nat_eq h.clients) (seat_at h.live.seats) (sorted.contains nat_cmp h.live.pids) h.live.rooms h.saved h.log h.records.last h.records.counts (h.records.steps.steps)
 hub-of h holds = (holds.0, holds.1, holds.2, holds.3)
 
 -- and this too

@@ -1,10 +1,11 @@
 -- What a hub knows of a recovery that it makes.
-use Rattle.std.proofs.Common.{◌≡◌, ℕ, ◌==◌, ◌+◌, ◌++◌, ◌||◌, Bool, true, false, max, length, List, ◌∷◌, sym, ◌∙◌, ap, subst, Option, None, Some, if◌then◌else◌}
+use Rattle.hub_state.specs.Seats.{seat_at}
+use Rattle.std.proofs.Common.{◌≡◌, ℕ, ◌==◌, ◌+◌, ◌++◌, ◌||◌, Bool, true, false, max, length, List, ◌∷◌, sym, ◌∙◌, ap, subst, Option, None, Some, if◌then◌else◌, nat_eq}
 use Rattle.std.specs.Prelude.{is_some}
 use Rattle.std.specs.List.{find}
 use Rattle.std.specs.Option.{option_map}
 use Rattle.std.specs.Ordering.{nat_cmp}
-use Rattle.std.specs.BTreeMap.{get}
+use Rattle.std.specs.HashMap.{get}
 use Rattle.std.specs.BTreeSet as sorted
 use Rattle.room_maps.specs.Membership as room_maps
 use Rattle.room_maps.specs.Membership.{RoomSets, is_socket, are_too_many, AreConsistent}
@@ -102,8 +103,8 @@ pub record AsksToRecover (hub : Inside) (r : PlainRecovery) (k : Socket) (es : L
   pub same : k ≡ r.socket
   pub entries : es ≡ answer hub.limits r.socket ∷ entries_of (log hub.base hub.limits (hub.records.steps.steps)) r.missed
   pub counts : CanCount hub.records.counts (length es) 0 0 0
-  pub alone : find (λ (l : Socket). l.space == k.space) (held_sockets (get nat_cmp hub.clients k.client)) ≡ None
-  pub free : get nat_cmp hub.live.seats r.socket.sid ≡ None
+  pub alone : find (λ (l : Socket). l.space == k.space) (held_sockets (get nat_eq hub.clients k.client)) ≡ None
+  pub free : seat_at hub.live.seats r.socket.sid ≡ None
   pub unused : sorted.contains nat_cmp hub.live.pids r.socket.pid ≡ false
   pub new : is_socket hub.live.rooms r.socket.sid ≡ false
   pub few : are_too_many r.socket.sid r.rooms ≡ false
@@ -133,7 +134,7 @@ comes-back hub h r k es now holds is same accepted right puts =
       same = same;
       entries = entries;
       counts = can_recover base limits journal hub.records.counts holds.3 holds.2 r at (length es) accepted' (placed_recovered base limits journal r es entries);
-      alone = subst (λ (k : Socket). find (λ (l : Socket). l.space == k.space) (held_sockets (get nat_cmp hub.clients k.client)) ≡ None) (sym same) (free-there base limits (get nat_cmp hub.clients) journal r.socket.client r.socket.space holds.0.clients may.known may.alone);
+      alone = subst (λ (k : Socket). find (λ (l : Socket). l.space == k.space) (held_sockets (get nat_eq hub.clients k.client)) ≡ None) (sym same) (free-there base limits (get nat_eq hub.clients) journal r.socket.client r.socket.space holds.0.clients may.known may.alone);
       free = holds.0.seats r.socket.sid ∙ back.new_sid;
       unused = holds.0.pids r.socket.pid ∙ ap is_some back.new_pid;
       new = ap (λ sets. is_socket sets r.socket.sid) holds.0.rooms_are ∙ back.no_socket;
@@ -144,17 +145,17 @@ comes-back hub h r k es now holds is same accepted right puts =
 -- the hub with its socket, ids, rooms and entries, and with one step more
 pub came-back : (hub : Inside) (r : PlainRecovery) (k : Socket) (es : List Entry) (now n : ℕ) (mid new : ℕ → Option PlainClient) (seat : ℕ → Option Socket) (is_pid : ℕ → Bool) (sets : RoomSets) (table : TableContents)
     → Describes hub → AsksToRecover hub r k es now → n ≡ length es
-    → ((q : ℕ) → mid q ≡ (if k.client == q then option_map (plus_socket k) (get nat_cmp hub.clients q) else get nat_cmp hub.clients q))
+    → ((q : ℕ) → mid q ≡ (if k.client == q then option_map (plus_socket k) (get nat_eq hub.clients q) else get nat_eq hub.clients q))
     → ((q : ℕ) → new q ≡ (if k.client == q then option_map (with_entries es) (mid q) else mid q))
-    → ((s : ℕ) → seat s ≡ (if r.socket.sid == s then Some r.socket else get nat_cmp hub.live.seats s))
+    → ((s : ℕ) → seat s ≡ (if r.socket.sid == s then Some r.socket else seat_at hub.live.seats s))
     → ((p : ℕ) → is_pid p ≡ ((r.socket.pid == p) || sorted.contains nat_cmp hub.live.pids p))
     → sets ≡ room_maps.with_socket_in hub.live.rooms r.socket.sid r.rooms → AreConsistent sets
     → table ≡ removed hub.saved k.pid
     → IsHub hub.base hub.limits new seat is_pid sets table hub.log (max now hub.records.last) (record { commands = hub.records.counts.commands + 1; placed = hub.records.counts.placed + n; dropped = hub.records.counts.dropped + 0; taken = hub.records.counts.taken + 0; discarded = hub.records.counts.discarded + 0 })
     (record { at = max now hub.records.last; what = Recovered r } ∷ hub.records.steps.steps)
 came-back hub r k es now n mid new seat is_pid sets table holds b number first second seats pids rooms consistent out =
-    let find = get nat_cmp hub.clients in
+    let find = get nat_eq hub.clients in
     let clients = subst (λ (k : Socket). (q : ℕ) → new q ≡ (if k.client == q then option_map (with_return k es) (find q) else find q)) b.same (returned find mid new k.client k es first second) in
     let out' = out ∙ ap (λ (k : Socket). removed hub.saved k.pid) b.same in
-    recovered hub.base hub.limits r now hub.records.last n find new (get nat_cmp hub.live.seats) seat (sorted.contains nat_cmp hub.live.pids) is_pid hub.live.rooms sets hub.saved table hub.log hub.records.counts (hub.records.steps.steps) es
+    recovered hub.base hub.limits r now hub.records.last n find new (seat_at hub.live.seats) seat (sorted.contains nat_cmp hub.live.pids) is_pid hub.live.rooms sets hub.saved table hub.log hub.records.counts (hub.records.steps.steps) es
     (hub-of hub holds) b.accepted b.right b.entries number clients seats pids rooms consistent out'

@@ -1,5 +1,5 @@
 -- Both indexes of the connected sockets, with one socket more or less.
-use Rattle.std.proofs.Common.{◌≡◌, ℕ, ◌+◌, ◌==◌, Bool, true, false, not, ◌&&◌, ◌||◌, cond, List, [], ◌∷◌, map, filter, refl, sym, ap, subst, ◌∙◌, arith, if◌then◌else◌, None, Some, Result, Ok, Err, nat_le, nat_lt, nat_cmp}
+use Rattle.std.proofs.Common.{◌≡◌, ℕ, ◌+◌, ◌==◌, Bool, true, false, not, ◌&&◌, ◌||◌, cond, List, [], ◌∷◌, map, filter, refl, sym, ap, subst, ◌∙◌, arith, if◌then◌else◌, None, Some, Result, Ok, Err, nat_le, nat_lt, nat_eq, nat_cmp}
 use Rattle.std.specs.Prelude.{IfOk}
 use Rattle.std.specs.List.{list_any, AllByRecursion}
 use Rattle.std.specs.List.Sorted.{IsStrictlySortedBy}
@@ -8,7 +8,7 @@ use Rattle.std.specs.declared.cmp.Ordering.TheVariants.{Less, Equal, Greater}
 use Rattle.std.specs.declared.ops.Bound.TheVariants.{Included, Excluded}
 use Rattle.std.specs.Ordering.{is_eq, is_le, ordering_then, eq_by_cmp}
 use Rattle.std.specs.Cmp.{unsigned_tied}
-use Rattle.std.specs.BTreeMap.{get, is_at, IsEmpty}
+use Rattle.std.specs.BTreeMap.{is_at}
 use Rattle.std.specs.BTreeMap.Range.{range_contains}
 use Rattle.std.specs.BTreeSet.{BTreeSet}
 use Rattle.std.specs.BTreeSet as sorted
@@ -17,7 +17,7 @@ use Rattle.std.proofs.lemmas.Bool.Decides.{nat_tests}
 use Rattle.terms.specs.Listing.{ListsRising}
 use Rattle.journal.specs.declared.socket.Socket.{Socket}
 use Rattle.journal.specs.Casting.{is_here}
-use Rattle.hub_state.specs.Seats.{SeatMap, seat_cmp, IsIndex}
+use Rattle.hub_state.specs.Seats.{SeatMap, seat_cmp, IsIndex, seat_at}
 
 -- ---- pairs of a place and a session id
 
@@ -31,17 +31,17 @@ at_seat p s q t = is_eq-then (nat_cmp p q) (nat_cmp s t) ∙ (λ i. unsigned_tie
 
 -- ---- one socket more or less
 
-pub index_empty : (m : SeatMap) (i : BTreeSet (ℕ × ℕ)) → IsEmpty m → sorted.IsEmpty i → IsIndex m i
+pub index_empty : (m : SeatMap) (i : BTreeSet (ℕ × ℕ)) → m ≡ [] → sorted.IsEmpty i → IsIndex m i
 index_empty m i none no_place = record { mirror = λ p s. ap (list_any (is_at (seat_cmp (p, s)))) no_place ∙ ap (is_here p) (sym (absent s)) }
   where
-    absent : (s : ℕ) → get nat_cmp m s ≡ None
+    absent : (s : ℕ) → seat_at m s ≡ None
     absent s = rw none refl
 
-pub index_same : (m n : SeatMap) (i j : BTreeSet (ℕ × ℕ)) → IsIndex m i → ((s : ℕ) → get nat_cmp n s ≡ get nat_cmp m s) → sorted.IsUnchanged i j → IsIndex n j
+pub index_same : (m n : SeatMap) (i j : BTreeSet (ℕ × ℕ)) → IsIndex m i → ((s : ℕ) → seat_at n s ≡ seat_at m s) → sorted.IsUnchanged i j → IsIndex n j
 index_same m n i j was seats same = record { mirror = λ p s. ap (list_any (is_at (seat_cmp (p, s)))) same ∙ was.mirror p s ∙ ap (is_here p) (sym (seats s)) }
 
-pub index_added : (m n : SeatMap) (i j : BTreeSet (ℕ × ℕ)) (k : Socket) → IsIndex m i → get nat_cmp m k.sid ≡ None
-    → ((s : ℕ) → get nat_cmp n s ≡ cond (is_at (nat_cmp k.sid) s) (Some k) (get nat_cmp m s))
+pub index_added : (m n : SeatMap) (i j : BTreeSet (ℕ × ℕ)) (k : Socket) → IsIndex m i → seat_at m k.sid ≡ None
+    → ((s : ℕ) → seat_at n s ≡ cond (nat_eq k.sid s) (Some k) (seat_at m s))
     → ((q : ℕ × ℕ) → sorted.contains seat_cmp j q ≡ cond (is_at (seat_cmp (k.space, k.sid)) q) true (sorted.contains seat_cmp i q))
     → IsIndex n j
 index_added m n i j k was free seats places = record {
@@ -49,7 +49,6 @@ index_added m n i j k was free seats places = record {
       places (p, s)
       ∙ (λ x. cond (at_seat k.space k.sid p s x) true (was.mirror p s x))
       ∙ both (k.sid == s) p s refl
-      ∙ (λ x. is_here p (cond (sym (unsigned_tied k.sid s) x) (Some k) (get nat_cmp m s)))
       ∙ ap (is_here p) (sym (seats s));
 }
   where
@@ -61,14 +60,14 @@ index_added m n i j k was free seats places = record {
     none true y = refl
     none false y = refl
 
-    both : (b : Bool) (p s : ℕ) → (k.sid == s) ≡ b → cond ((k.space == p) && b) true (is_here p (get nat_cmp m s)) ≡ is_here p (cond b (Some k) (get nat_cmp m s))
+    both : (b : Bool) (p s : ℕ) → (k.sid == s) ≡ b → cond ((k.space == p) && b) true (is_here p (seat_at m s)) ≡ is_here p (cond b (Some k) (seat_at m s))
     both true p s same =
-        let gone : get nat_cmp m s ≡ None = ap (get nat_cmp m) (sym (eqb-true k.sid s same)) ∙ free in
+        let gone : seat_at m s ≡ None = ap (seat_at m) (sym (eqb-true k.sid s same)) ∙ free in
         ap (λ o. cond ((k.space == p) && true) true (is_here p o)) gone ∙ one (k.space == p)
-    both false p s other = none (k.space == p) (is_here p (get nat_cmp m s))
+    both false p s other = none (k.space == p) (is_here p (seat_at m s))
 
-pub index_removed : (m n : SeatMap) (i j : BTreeSet (ℕ × ℕ)) (t : ℕ) (k : Socket) → IsIndex m i → get nat_cmp m t ≡ Some k
-    → ((s : ℕ) → get nat_cmp n s ≡ cond (is_at (nat_cmp t) s) None (get nat_cmp m s))
+pub index_removed : (m n : SeatMap) (i j : BTreeSet (ℕ × ℕ)) (t : ℕ) (k : Socket) → IsIndex m i → seat_at m t ≡ Some k
+    → ((s : ℕ) → seat_at n s ≡ cond (nat_eq t s) None (seat_at m s))
     → ((q : ℕ × ℕ) → sorted.contains seat_cmp j q ≡ cond (is_at (seat_cmp (k.space, t)) q) false (sorted.contains seat_cmp i q))
     → IsIndex n j
 index_removed m n i j t k was present seats places = record {
@@ -76,7 +75,6 @@ index_removed m n i j t k was present seats places = record {
       places (p, s)
       ∙ (λ x. cond (at_seat k.space t p s x) false (was.mirror p s x))
       ∙ both (t == s) p s refl
-      ∙ (λ x. is_here p (cond (sym (unsigned_tied t s) x) None (get nat_cmp m s)))
       ∙ ap (is_here p) (sym (seats s));
 }
   where
@@ -88,34 +86,33 @@ index_removed m n i j t k was present seats places = record {
     none true y = refl
     none false y = refl
 
-    both : (b : Bool) (p s : ℕ) → (t == s) ≡ b → cond ((k.space == p) && b) false (is_here p (get nat_cmp m s)) ≡ is_here p (cond b None (get nat_cmp m s))
+    both : (b : Bool) (p s : ℕ) → (t == s) ≡ b → cond ((k.space == p) && b) false (is_here p (seat_at m s)) ≡ is_here p (cond b None (seat_at m s))
     both true p s same =
-        let here : get nat_cmp m s ≡ Some k = ap (get nat_cmp m) (sym (eqb-true t s same)) ∙ present in
+        let here : seat_at m s ≡ Some k = ap (seat_at m) (sym (eqb-true t s same)) ∙ present in
         ap (λ o. cond ((k.space == p) && true) false (is_here p o)) here ∙ one (k.space == p)
-    both false p s other = none (k.space == p) (is_here p (get nat_cmp m s))
+    both false p s other = none (k.space == p) (is_here p (seat_at m s))
 
 -- a socket that wasn't there is taken away
-pub index_absent : (m n : SeatMap) (i : BTreeSet (ℕ × ℕ)) (t : ℕ) → IsIndex m i → get nat_cmp m t ≡ None
-    → ((s : ℕ) → get nat_cmp n s ≡ cond (is_at (nat_cmp t) s) None (get nat_cmp m s)) → IsIndex n i
-index_absent m n i t was absent seats = index_same m n i i was (λ s. seats s ∙ ap (λ b. cond b None (get nat_cmp m s)) (unsigned_tied t s) ∙ both (t == s) s refl) refl
+pub index_absent : (m n : SeatMap) (i : BTreeSet (ℕ × ℕ)) (t : ℕ) → IsIndex m i → seat_at m t ≡ None
+    → ((s : ℕ) → seat_at n s ≡ cond (nat_eq t s) None (seat_at m s)) → IsIndex n i
+index_absent m n i t was absent seats = index_same m n i i was (λ s. seats s ∙ both (t == s) s refl) refl
   where
-    both : (b : Bool) (s : ℕ) → (t == s) ≡ b → cond b None (get nat_cmp m s) ≡ get nat_cmp m s
-    both true s same = sym (ap (get nat_cmp m) (sym (eqb-true t s same)) ∙ absent)
+    both : (b : Bool) (s : ℕ) → (t == s) ≡ b → cond b None (seat_at m s) ≡ seat_at m s
+    both true s same = sym (ap (seat_at m) (sym (eqb-true t s same)) ∙ absent)
     both false s other = refl
 
 -- a socket that was put is taken back
-pub taken_back : (m n l : SeatMap) (k : Socket) → get nat_cmp m k.sid ≡ None
-    → ((s : ℕ) → get nat_cmp n s ≡ cond (is_at (nat_cmp k.sid) s) (Some k) (get nat_cmp m s))
-    → ((s : ℕ) → get nat_cmp l s ≡ cond (is_at (nat_cmp k.sid) s) None (get nat_cmp n s))
-    → (s : ℕ) → get nat_cmp l s ≡ get nat_cmp m s
+pub taken_back : (m n l : SeatMap) (k : Socket) → seat_at m k.sid ≡ None
+    → ((s : ℕ) → seat_at n s ≡ cond (nat_eq k.sid s) (Some k) (seat_at m s))
+    → ((s : ℕ) → seat_at l s ≡ cond (nat_eq k.sid s) None (seat_at n s))
+    → (s : ℕ) → seat_at l s ≡ seat_at m s
 taken_back m n l k free put took s =
     took s
-    ∙ ap (λ o. cond (is_at (nat_cmp k.sid) s) None o) (put s)
-    ∙ ap (λ b. cond b None (cond b (Some k) (get nat_cmp m s))) (unsigned_tied k.sid s)
+    ∙ ap (λ o. cond (nat_eq k.sid s) None o) (put s)
     ∙ both (k.sid == s) refl
   where
-    both : (b : Bool) → (k.sid == s) ≡ b → cond b None (cond b (Some k) (get nat_cmp m s)) ≡ get nat_cmp m s
-    both true same = sym (ap (get nat_cmp m) (sym (eqb-true k.sid s same)) ∙ free)
+    both : (b : Bool) → (k.sid == s) ≡ b → cond b None (cond b (Some k) (seat_at m s)) ≡ seat_at m s
+    both true same = sym (ap (seat_at m) (sym (eqb-true k.sid s same)) ∙ free)
     both false other = refl
 
 -- ---- the session ids at a place

@@ -1,7 +1,6 @@
 -- A broadcast that is sent: its messages, its drops and whether it can be counted, by what the state holds.
-use Rattle.std.proofs.Common.{◌≡◌, ◌∙◌, ℕ, ◌+◌, ◌≤◌, Bool, ◌||◌, List, length, map, sym, ap, arith, Option}
-use Rattle.std.specs.Ordering.{nat_cmp}
-use Rattle.std.specs.BTreeMap.{get}
+use Rattle.std.proofs.Common.{◌≡◌, ◌∙◌, ℕ, ◌+◌, ◌≤◌, Bool, ◌||◌, List, length, map, sym, ap, arith, Option, nat_eq}
+use Rattle.std.specs.HashMap.{get}
 use Rattle.std.specs.Option.{option_map}
 use Rattle.journal.specs.declared.socket.Socket.{Socket}
 use Rattle.journal.specs.declared.step.What.TheVariants.{Cast}
@@ -23,13 +22,13 @@ module _ (h : Inside) (holds : Describes h) (b : PlainBroadcast) (ks : List Sock
   abbrev messages : List PlainMessage
   messages = messages_to (history_of h) ks b
 
-  same-messages : messages_for (get nat_cmp h.clients) b.entry ks ≡ messages
+  same-messages : messages_for (get nat_eq h.clients) b.entry ks ≡ messages
   same-messages = λ i. messages_for (λ q. holds.0.clients q i) b.entry ks
 
   -- what was put
-  pub same-put : (new : ℕ → Option PlainClient) → ((q : ℕ) → new q ≡ option_map (with_entries (entries_for q (map pair_of (messages_for (get nat_cmp h.clients) b.entry ks)))) (get nat_cmp h.clients q))
-      → (q : ℕ) → new q ≡ option_map (with_entries (entries_for q (map pair_of messages))) (get nat_cmp h.clients q)
-  same-put new put q = put q ∙ ap (λ ms. option_map (with_entries (entries_for q (map pair_of ms))) (get nat_cmp h.clients q)) same-messages
+  pub same-put : (new : ℕ → Option PlainClient) → ((q : ℕ) → new q ≡ option_map (with_entries (entries_for q (map pair_of (messages_for (get nat_eq h.clients) b.entry ks)))) (get nat_eq h.clients q))
+      → (q : ℕ) → new q ≡ option_map (with_entries (entries_for q (map pair_of messages))) (get nat_eq h.clients q)
+  same-put new put q = put q ∙ ap (λ ms. option_map (with_entries (entries_for q (map pair_of ms))) (get nat_eq h.clients q)) same-messages
 
   -- it is of a form still
   pub sent-formed : IsOfAForm h.limits b → IsOfAForm h.limits sent
@@ -41,7 +40,7 @@ module _ (h : Inside) (holds : Describes h) (b : PlainBroadcast) (ks : List Sock
     logged = f.logged;
   }
 
-  module _ (reached lost : List ℕ) (told : reached ≡ map receiver_of (messages_for (get nat_cmp h.clients) b.entry ks)) (missed : lost ≡ missing (get nat_cmp h.clients) b.entry ks) where
+  module _ (reached lost : List ℕ) (told : reached ≡ map receiver_of (messages_for (get nat_eq h.clients) b.entry ks)) (missed : lost ≡ missing (get nat_eq h.clients) b.entry ks) where
     -- those that got it, and those that miss it
     pub same-reached : reached ≡ map receiver_of messages
     same-reached = told ∙ ap (map receiver_of) same-messages

@@ -1,9 +1,9 @@
 -- How a command changes what a state is kept in, and what its refusal says.
-use Rattle.std.specs.Prelude.{◌≡◌, ℕ, ◌+◌, ◌-◌, ◌≤◌, ◌==◌, ◌||◌, true, false, List, length, take, Option, None, Some, Result, Ok, Err, OnOk, OnErr, IfErr, if◌then◌else◌}
+use Rattle.std.specs.Prelude.{◌≡◌, ℕ, ◌+◌, ◌-◌, ◌≤◌, ◌==◌, ◌||◌, true, false, List, length, take, Option, None, Some, Result, Ok, Err, OnOk, OnErr, IfErr, if◌then◌else◌, nat_eq}
 use Rattle.std.specs.List.{find, list_any, count_by, AllByRecursion}
 use Rattle.std.specs.Option.{option_map}
 use Rattle.std.specs.Ordering.{nat_cmp}
-use Rattle.std.specs.BTreeMap.{BTreeMap, get}
+use Rattle.std.specs.HashMap.{HashMap, get}
 use Rattle.std.specs.BTreeSet.{BTreeSet, contains}
 use Rattle.journal.specs.declared.error.HubError.{HubError}
 use Rattle.journal.specs.declared.error.HubError.TheVariants.{Memory}
@@ -17,19 +17,19 @@ use Rattle.journal.specs.Legal.{EachTwo, AreApart}
 use Rattle.journal.specs.Fields.{held_sockets}
 use Rattle.journal.specs.Command.{refusal}
 use Rattle.journal.specs.Membership.{without_sockets}
-use Rattle.hub_state.specs.Seats.{SeatMap, SameSeats, WithSeat}
+use Rattle.hub_state.specs.Seats.{SeatMap, SameSeats, WithSeat, seat_at}
 use Rattle.hub_state.specs.declared.state.Live.{Live}
 
 -- ---- the maps
 
 -- what is held of one client, if anything, becomes this, and what is held of the others stays
-abbrev pub ChangesClient : (PlainClient → PlainClient) → ℕ → BTreeMap ℕ PlainClient → BTreeMap ℕ PlainClient → Type 0
+abbrev pub ChangesClient : {S : Type 0} → (PlainClient → PlainClient) → ℕ → HashMap ℕ PlainClient S → HashMap ℕ PlainClient S → Type 0
 ChangesClient f client old new =
-    (q : ℕ) → get nat_cmp new q ≡ (if client == q then option_map f (get nat_cmp old q) else get nat_cmp old q)
+    (q : ℕ) → get nat_eq new q ≡ (if client == q then option_map f (get nat_eq old q) else get nat_eq old q)
 
 -- the same of each client
-abbrev pub SameClients : BTreeMap ℕ PlainClient → BTreeMap ℕ PlainClient → Type 0
-SameClients old new = (q : ℕ) → get nat_cmp new q ≡ get nat_cmp old q
+abbrev pub SameClients : {S : Type 0} → HashMap ℕ PlainClient S → HashMap ℕ PlainClient S → Type 0
+SameClients old new = (q : ℕ) → get nat_eq new q ≡ get nat_eq old q
 
 -- a client without the newest entries that wait for it, as many as are named
 abbrev pub without_newest : ℕ → PlainClient → PlainClient
@@ -37,9 +37,9 @@ without_newest n known =
     record known { outbox = record known.outbox { waiting = take (length known.outbox.waiting - n) known.outbox.waiting } }
 
 -- each client without the newest entry that waits for it, as often as it is in the list
-abbrev pub WithoutNewest : List ℕ → BTreeMap ℕ PlainClient → BTreeMap ℕ PlainClient → Type 0
+abbrev pub WithoutNewest : {S : Type 0} → List ℕ → HashMap ℕ PlainClient S → HashMap ℕ PlainClient S → Type 0
 WithoutNewest clients old new =
-    (q : ℕ) → get nat_cmp new q ≡ option_map (without_newest (count_by (λ c. c == q) clients)) (get nat_cmp old q)
+    (q : ℕ) → get nat_eq new q ≡ option_map (without_newest (count_by (λ c. c == q) clients)) (get nat_eq old q)
 
 -- the same private ids
 abbrev pub SamePids : BTreeSet ℕ → BTreeSet ℕ → Type 0
@@ -51,7 +51,7 @@ WithPid pid old new = (p : ℕ) → contains nat_cmp new p ≡ ((pid == p) || co
 
 -- no socket has one of the socket's ids
 abbrev pub IsNew : Socket → Live → Type 0
-IsNew socket known = (get nat_cmp known.seats socket.sid ≡ None) × (contains nat_cmp known.pids socket.pid ≡ false)
+IsNew socket known = (seat_at known.seats socket.sid ≡ None) × (contains nat_cmp known.pids socket.pid ≡ false)
 
 -- the same sockets in the same rooms
 abbrev pub SameLive : (old new : Live) → Type 0
@@ -64,8 +64,8 @@ WithSocket socket inside old new =
     × (new.rooms ≡ with_socket_in old.rooms socket.sid inside) × AreConsistent new.rooms
 
 -- the socket's client has none at the socket's place
-abbrev pub IsAlone : Socket → BTreeMap ℕ PlainClient → Type 0
-IsAlone socket clients = find (λ (k : Socket). k.space == socket.space) (held_sockets (get nat_cmp clients socket.client)) ≡ None
+abbrev pub IsAlone : {S : Type 0} → Socket → HashMap ℕ PlainClient S → Type 0
+IsAlone socket clients = find (λ (k : Socket). k.space == socket.space) (held_sockets (get nat_eq clients socket.client)) ≡ None
 
 -- without a private id
 abbrev pub WithoutPid : ℕ → BTreeSet ℕ → BTreeSet ℕ → Type 0
@@ -74,7 +74,7 @@ WithoutPid pid old new = (p : ℕ) → contains nat_cmp new p ≡ (if pid == p t
 -- without the sockets of a list, by their session ids
 abbrev pub WithoutSeats : List Socket → SeatMap → SeatMap → Type 0
 WithoutSeats sockets old new =
-    (s : ℕ) → get nat_cmp new s ≡ (if list_any (λ (k : Socket). k.sid == s) sockets then None else get nat_cmp old s)
+    (s : ℕ) → seat_at new s ≡ (if list_any (λ (k : Socket). k.sid == s) sockets then None else seat_at old s)
 
 -- without the sockets of a list, by their private ids
 abbrev pub WithoutPids : List Socket → BTreeSet ℕ → BTreeSet ℕ → Type 0

@@ -13,7 +13,7 @@ ghost use Rattle.journal.specs.Outboxes.{total_size, has_no_space};
 use circular_buffer::HeapCircularBuffer;
 use journal::Socket;
 use std::alloc::{AllocError, Global};
-use std::collections::BTreeMap;
+use std::collections::HashMap;
 use std::marker::Model;
 use std::sync::Arc;
 use terms::Entry;
@@ -26,8 +26,9 @@ pub struct Client {
     pub outbox: Outbox,
 }
 
-/// The open clients by their ids.
-pub type Clients = BTreeMap<u128, Client>;
+/// The open clients by their ids. A broadcast looks each of its receivers up, which by hash takes the
+/// same however many there are.
+pub type Clients = HashMap<u128, Client>;
 
 impl Model for Client {
     ghost Value = { PlainClient };

@@ -1,23 +1,22 @@
 //! The connected sockets by their session ids, and those of each namespace.
 
-ghost use Rattle.std.specs.Prelude.{◌≡◌, map, IfOk, OnOk, OnErr, None, option_copied};
+ghost use Rattle.std.specs.Prelude.{◌≡◌, [], map, IfOk, OnOk, OnErr, None, option_copied};
 ghost use Rattle.std.specs.Ordering.{nat_cmp};
-ghost use Rattle.std.specs.BTreeMap.{get, IsEmpty};
 ghost use Rattle.terms.specs.Listing.{ListsRising};
 ghost use Rattle.journal.specs.Casting.{is_here};
-ghost use Rattle.hub_state.specs.Seats.{IsIndex, SeatMap, seat_map_code, SameSeats, WithSeat, WithoutSeat};
+ghost use Rattle.hub_state.specs.Seats.{IsIndex, SeatMap, SameSeats, WithSeat, WithoutSeat, seat_at};
 
 use journal::Socket;
 use std::alloc::{AllocError, Global};
-use std::collections::{BTreeMap, BTreeSet};
+use std::collections::{BTreeSet, HashMap};
 use std::marker::Model;
 use terms::Sid;
 
-/// The connected sockets. In a contract they are the map from session ids to sockets. In the costs
-/// below, "the logarithm" is that of the number of sockets of all namespaces.
+/// The connected sockets. In a contract they are the sockets by their session ids, which are looked
+/// up by hash. In the costs below, "the logarithm" is that of the number of sockets of all namespaces.
 #[derive(Drop)]
 pub struct Seats {
-    by_sid: BTreeMap<Sid, Socket>,
+    by_sid: HashMap<u128, Socket>,
     /// The place of each socket's namespace, and its session id. A place is a `u32` here, so that
     /// there is one after the greatest.
     by_space: BTreeSet<(u32, Sid)>,
@@ -26,42 +25,40 @@ pub struct Seats {
 impl Model for Seats {
     ghost Value = { SeatMap };
 
-    ghost coded = { seat_map_code };
+    ghost view = { λ a. a.by_sid.entries };
 
-    ghost view = { λ a. a.by_sid };
-
-    ghost invariant = { λ a. IsIndex a.by_sid a.by_space };
+    ghost invariant = { λ a. IsIndex a.by_sid.entries a.by_space };
 }
 
 impl Seats {
     /// No sockets.
     pub fn new(alloc: Global) -> Seats
-        ensures { IsEmpty result }
+        ensures { result ≡ [] }
     {
         Seats {
-            by_sid: BTreeMap::new(alloc),
+            by_sid: HashMap::new(alloc),
             by_space: BTreeSet::new(alloc),
         }
     }
 
-    /// The socket with a session id. It takes the logarithm.
+    /// The socket with a session id. It takes one look-up.
     pub fn get(&self, sid: Sid) -> Option<&Socket>
-        ensures { option_copied result ≡ get nat_cmp self.now sid }
+        ensures { option_copied result ≡ seat_at self.now sid }
     {
-        self.by_sid.get(&sid)
+        self.by_sid.get(&sid.number())
     }
 
     /// Adds a socket whose session id is free. It takes the logarithm.
     pub fn insert(&mut self, socket: Socket) -> Result<(), AllocError>
-        requires free { get nat_cmp self.old socket.sid ≡ None }
+        requires free { seat_at self.old socket.sid ≡ None }
         ensures ok { OnOk result (WithSeat socket self.old self.new) }
         ensures err { OnErr result (SameSeats self.old self.new) }
     {
-        let sid = socket.sid;
+        let (sid, key) = (socket.sid, socket.sid.number());
         let space = u32::from(socket.space);
-        self.by_sid.insert(sid, socket)?;
+        self.by_sid.insert(key, socket)?;
         let Ok(_) = self.by_space.insert((space, sid)) else {
-            self.by_sid.remove(&sid);
+            self.by_sid.remove(&key);
             return Err(AllocError);
         };
         Ok(())
@@ -72,7 +69,7 @@ impl Seats {
     pub fn remove(&mut self, sid: Sid)
         ensures { WithoutSeat sid self.old self.new }
     {
-        if let Some(socket) = self.by_sid.remove(&sid) {
+        if let Some(socket) = self.by_sid.remove(&sid.number()) {
             self.by_space.remove(&(u32::from(socket.space), sid));
         }
     }
@@ -81,7 +78,7 @@ impl Seats {
     /// and walks these sockets alone.
     pub fn sids_in(&self, alloc: Global, space: u16) -> Result<Vec<Sid>, AllocError>
         ensures { IfOk result (λ sids.
-            ListsRising nat_cmp (λ s. is_here space (get nat_cmp self.now s)) sids.items) }
+            ListsRising nat_cmp (λ s. is_here space (seat_at self.now s)) sids.items) }
     {
         let place = u32::from(space);
         let least = Sid::new(0);

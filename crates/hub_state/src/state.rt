@@ -37,7 +37,7 @@ use journal::{Base, Config, Counts, HubError, Step, Totals, What};
 use recovery::{PacketLog, Pid, SavedTable};
 use room_maps::{RoomMap, Rooms, SocketMap};
 use std::alloc::Global;
-use std::collections::{BTreeMap, BTreeSet};
+use std::collections::{BTreeSet, HashMap};
 use std::marker::Model;
 use terms::{Entry, Sid, let_go};
 
@@ -188,7 +188,7 @@ impl State {
             limits,
             base,
             records,
-            clients: BTreeMap::new(alloc),
+            clients: HashMap::new(alloc),
             live,
             saved,
             log,

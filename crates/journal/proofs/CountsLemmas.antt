@@ -6,7 +6,7 @@ use Rattle.std.specs.Map.{keys_of}
 use Rattle.std.specs.Set.{is_member}
 use Rattle.std.specs.Ordering.{nat_cmp, eq_by_cmp}
 use Rattle.std.specs.Cmp.{unsigned_tied}
-use Rattle.std.specs.BTreeMap.{BTreeMap, get, btree_map_len, IsOrdered}
+use Rattle.std.specs.HashMap.{HashMap, get, hash_map_len, IsUnique}
 use Rattle.std.proofs.lemmas.Cmp.{nat_eq_equiv}
 use Rattle.std.proofs.lemmas.Map.Keys.{IsDistinct-from_sorted}
 use Rattle.std.proofs.lemmas.Map.Made.{is_some-lookup, length-from_same_keys}
@@ -104,18 +104,15 @@ unfolding is_open
 is_open-member base journal q = refl
 
 -- the map has an entry for each open client
-pub clients_counted : (base : PlainBase) (limits : Limits) (journal : List Step) (m : BTreeMap ℕ PlainClient) → IsOrdered nat_cmp m → ((c : ℕ) → get nat_cmp m c ≡ client_at base limits journal c)
-    → IsDistinct nat_eq (open_clients base journal) → btree_map_len m ≡ length (open_clients base journal)
-clients_counted base limits journal m sorted finds once =
+pub clients_counted : {S : Type 0} (base : PlainBase) (limits : Limits) (journal : List Step) (m : HashMap ℕ PlainClient S) → IsUnique nat_eq m → ((c : ℕ) → get nat_eq m c ≡ client_at base limits journal c)
+    → IsDistinct nat_eq (open_clients base journal) → hash_map_len m ≡ length (open_clients base journal)
+clients_counted base limits journal m apart finds once =
     sym (length-keys_of m.entries)
-    ∙ length-from_same_keys nat_eq_equiv (keys_of m.entries) (open_clients base journal)
-    (subst (λ e. IsDistinct e (keys_of m.entries)) (λ i x y. unsigned_tied x y i) (IsDistinct-from_sorted nat_cmp (keys_of m.entries) sorted))
-    once
-    (λ q. sym (λ i. list_any (λ k. unsigned_tied q k i) (keys_of m.entries)) ∙ has q)
+    ∙ length-from_same_keys nat_eq_equiv (keys_of m.entries) (open_clients base journal) apart once has
   where
     known : (c : ℕ) (b : Bool) (x : PlainClient) → is_some (if b then Some x else None) ≡ b
     known c true x = refl
     known c false x = refl
 
-    has : (q : ℕ) → list_any (λ k. eq_by_cmp nat_cmp q k) (keys_of m.entries) ≡ is_member nat_eq (open_clients base journal) q
-    has q = sym (is_some-lookup (λ k. eq_by_cmp nat_cmp q k) m.entries) ∙ ap is_some (finds q) ∙ known q (is_open base journal q) _ ∙ is_open-member base journal q
+    has : (q : ℕ) → is_member nat_eq (keys_of m.entries) q ≡ is_member nat_eq (open_clients base journal) q
+    has q = sym (is_some-lookup (nat_eq q) m.entries) ∙ ap is_some (finds q) ∙ known q (is_open base journal q) _ ∙ is_open-member base journal q

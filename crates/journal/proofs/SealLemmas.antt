@@ -1,5 +1,5 @@
 -- A base that says what the old base and journal say: all that was so of the hub is so with it and no steps.
-use Rattle.std.proofs.Common.{◌≡◌, ℕ, ◌^◌, ◌≤◌, ◌==◌, Bool, true, false, List, [], ◌∷◌, ◌++◌, length, map, reverse, refl, sym, ◌∙◌, ap, subst, arith, if◌then◌else◌, Option, None, Some, nat_eq, nat_lt}
+use Rattle.std.proofs.Common.{◌≡◌, ℕ, ◌^◌, ◌≤◌, ◌==◌, Bool, true, false, ◌||◌, List, [], ◌∷◌, ◌++◌, length, map, reverse, refl, sym, ◌∙◌, ap, subst, arith, if◌then◌else◌, Option, None, Some, nat_eq, nat_lt}
 use Rattle.std.specs.Prelude.{is_some}
 use Rattle.std.specs.List.{list_any, find, flat_map, sum_by, IsDistinct, AllByRecursion}
 use Rattle.std.specs.Option.{option_map_or}
@@ -7,7 +7,6 @@ use Rattle.std.specs.Set.{is_member}
 use Rattle.std.specs.Map.{keys_of, lookup}
 use Rattle.std.specs.Ordering.{nat_cmp, eq_by_cmp, is_eq}
 use Rattle.std.specs.Cmp.{nat_cmp_total, unsigned_tied, tied_itself, eq_by_cmp_equiv}
-use Rattle.std.specs.BTreeMap.{BTreeMap, get, IsOrdered}
 use Rattle.std.specs.FinSet as set
 use Rattle.std.specs.FinSet.{nat_cmp-IsAntisymmetric, contains-from_list, same_set}
 use Rattle.std.proofs.lemmas.Bool.{eqb-true}
@@ -36,7 +35,7 @@ use Rattle.journal.specs.Totals as counted
 use Rattle.journal.specs.Totals.{handed_out, waiting_in_all, totals}
 use Rattle.journal.specs.Legal.{EachTwo, AreApart, IsAway, DifferInIds, IsSound, IsLegal}
 use Rattle.journal.specs.Fields.{Fields, Counted, client_at}
-use Rattle.journal.specs.Seal.{ids_of, client_of, base_of, base_client, LeadsTo, SaysTheSame}
+use Rattle.journal.specs.Seal.{ids_of, client_of, base_of, base_at, base_client, LeadsTo, SaysTheSame}
 use Rattle.journal.proofs.SumsLemmas.{sum-same, sum-members}
 use Rattle.journal.proofs.SessionsLemmas.{is_some-find}
 use Rattle.journal.proofs.EndLemmas.{DifferBy, sids-differ, pids-differ}
@@ -46,39 +45,46 @@ use Rattle.journal.proofs.SealListsLemmas.{all-to, of_client, by_clients, AreOf,
 
 -- ---- the copies of the clients
 
-found-at : (es : List (ℕ × PlainClient)) → IsDistinct (eq_by_cmp nat_cmp) (keys_of es) → AllByRecursion (λ (e : ℕ × PlainClient). lookup (eq_by_cmp nat_cmp e.0) es ≡ Some e.1) es
-unfolding IsDistinct
-found-at [] once = tt
-found-at (e ∷ es) once = ((let itself : eq_by_cmp nat_cmp e.0 e.0 ≡ true = ap is_eq (tied_itself nat_cmp_total e.0) in rw itself refl), later es once.0 (found-at es once.1))
+-- what is so of all that a list has is so of each of its elements
+each-among : (test : ℕ → Bool) (cs : List ℕ) → ((c : ℕ) → list_any (eq_by_cmp nat_cmp c) cs ≡ true → test c ≡ true) → AllByRecursion (λ c. test c ≡ true) cs
+each-among test [] so = tt
+each-among test (c ∷ cs) so =
+    (so c (let itself : eq_by_cmp nat_cmp c c ≡ true = ap is_eq (tied_itself nat_cmp_total c) in rw itself refl),
+    each-among test cs (λ d among. so d (ap (λ b. eq_by_cmp nat_cmp d c || b) among ∙ either (eq_by_cmp nat_cmp d c))))
   where
-    later : (fs : List (ℕ × PlainClient)) → AllByRecursion (λ y. eq_by_cmp nat_cmp e.0 y ≡ false) (keys_of fs) → AllByRecursion (λ (f : ℕ × PlainClient). lookup (eq_by_cmp nat_cmp f.0) es ≡ Some f.1) fs
-        → AllByRecursion (λ (f : ℕ × PlainClient). lookup (eq_by_cmp nat_cmp f.0) (e ∷ es) ≡ Some f.1) fs
-    later [] ne h = tt
-    later (f ∷ fs) ne h = ((let other : eq_by_cmp nat_cmp f.0 e.0 ≡ false = (eq_by_cmp_equiv nat_cmp_total).symm f.0 e.0 ∙ ne.0 in rw other h.0), later fs ne.1 h.1)
+    either : (b : Bool) → (b || true) ≡ true
+    either true = refl
+    either false = refl
 
-module _ (base : PlainBase) (limits : Limits) (journal : List Step) (m : BTreeMap ℕ PlainClient) (sorted : IsOrdered nat_cmp m) (finds : (c : ℕ) → get nat_cmp m c ≡ client_at base limits journal c) where
-  ids-copied : (es : List (ℕ × PlainClient)) → map client_of (map base_of es) ≡ keys_of es
-  ids-copied [] = refl
-  ids-copied (e ∷ es) = ap (λ ids. e.0 ∷ ids) (ids-copied es)
+module _ (base : PlainBase) (limits : Limits) (journal : List Step) (known : ℕ → Option PlainClient) (finds : (c : ℕ) → known c ≡ client_at base limits journal c)
+    (ids : List ℕ) (listed : ListsRising nat_cmp (λ c. is_some (known c)) ids) where
+  ids-kept : (cs : List ℕ) → map client_of (map (base_client base limits journal) cs) ≡ cs
+  ids-kept [] = refl
+  ids-kept (c ∷ cs) = ap (λ ds. c ∷ ds) (ids-kept cs)
 
-  each-copied : (es : List (ℕ × PlainClient)) → AllByRecursion (λ (e : ℕ × PlainClient). get nat_cmp m e.0 ≡ Some e.1) es → map base_of es ≡ map (base_client base limits journal) (keys_of es)
-  each-copied [] h = refl
-  each-copied (e ∷ es) h = λ i. base_of (e.0, some_if (is_open base journal e.0) e.1 _ (sym h.0 ∙ finds e.0) i) ∷ each-copied es h.1 i
-
-  pub copied-open : (copies : List PlainBaseClient) → copies ≡ map base_of m.entries → ListsRising nat_cmp (is_open base journal) (map client_of copies)
-  copied-open copies is =
-      subst (ListsRising nat_cmp (is_open base journal)) (sym (ap (map client_of) is ∙ ids-copied m.entries))
-      (record { rises = sorted; exactly = λ c. sym (is_some-lookup (eq_by_cmp nat_cmp c) m.entries) ∙ ap is_some (finds c) ∙ known (is_open base journal c) _ })
+  each-copied : (cs : List ℕ) → AllByRecursion (λ c. is_some (known c) ≡ true) cs → flat_map (λ c. base_at c (known c)) cs ≡ map (base_client base limits journal) cs
+  each-copied [] all = refl
+  each-copied (c ∷ cs) all = on (known c) refl all.0 (each-copied cs all.1)
     where
-      known : (b : Bool) (x : PlainClient) → is_some (if b then Some x else None) ≡ b
-      known true x = refl
-      known false x = refl
+      on : (o : Option PlainClient) → known c ≡ o → is_some o ≡ true → flat_map (λ c. base_at c (known c)) cs ≡ map (base_client base limits journal) cs
+          → flat_map (λ c. base_at c (known c)) (c ∷ cs) ≡ map (base_client base limits journal) (c ∷ cs)
+      on None is some rest = absurd (cc some)
+      on (Some x) is some rest = rw is (λ i. base_of (c, some_if (is_open base journal c) x _ (sym is ∙ finds c) i) ∷ rest i)
 
-  pub copied-are : (copies : List PlainBaseClient) → copies ≡ map base_of m.entries → copies ≡ map (base_client base limits journal) (map client_of copies)
-  copied-are copies is =
-      is
-      ∙ each-copied m.entries (found-at m.entries (IsDistinct-from_sorted nat_cmp (keys_of m.entries) sorted))
-      ∙ ap (map (base_client base limits journal)) (sym (ap (map client_of) is ∙ ids-copied m.entries))
+  copied-all : (copies : List PlainBaseClient) → copies ≡ flat_map (λ c. base_at c (known c)) ids → copies ≡ map (base_client base limits journal) ids
+  copied-all copies is = is ∙ each-copied ids (each-among (λ c. is_some (known c)) ids (λ c among. sym (listed.exactly c) ∙ among))
+
+  pub copied-open : (copies : List PlainBaseClient) → copies ≡ flat_map (λ c. base_at c (known c)) ids → ListsRising nat_cmp (is_open base journal) (map client_of copies)
+  copied-open copies is =
+      subst (ListsRising nat_cmp (is_open base journal)) (sym (ap (map client_of) (copied-all copies is) ∙ ids-kept ids))
+      (record { rises = listed.rises; exactly = λ c. listed.exactly c ∙ ap is_some (finds c) ∙ so (is_open base journal c) _ })
+    where
+      so : (b : Bool) (x : PlainClient) → is_some (if b then Some x else None) ≡ b
+      so true x = refl
+      so false x = refl
+
+  pub copied-are : (copies : List PlainBaseClient) → copies ≡ flat_map (λ c. base_at c (known c)) ids → copies ≡ map (base_client base limits journal) (map client_of copies)
+  copied-are copies is = copied-all copies is ∙ ap (map (base_client base limits journal)) (sym (ap (map client_of) (copied-all copies is) ∙ ids-kept ids))
 
 -- ---- the new base
 

@@ -1,6 +1,6 @@
 -- What a seal keeps: the present state becomes the base, and what is said of
 -- the hub stays the same.
-use Rattle.std.specs.Prelude.{◌≡◌, ℕ, true, List, [], map, Result, Ok, Err}
+use Rattle.std.specs.Prelude.{◌≡◌, ℕ, true, List, [], ◌∷◌, map, Option, None, Some, Result, Ok, Err}
 use Rattle.std.specs.Ordering.{nat_cmp}
 use Rattle.terms.specs.Listing.{ListsRising}
 use Rattle.room_maps.specs.Membership.{pair_cmp, is_in}
@@ -43,6 +43,11 @@ base_client base limits journal c =
 -- what a hub holds of a client, as a base has it
 abbrev pub base_of : ℕ × PlainClient → PlainBaseClient
 base_of e = record { client = e.0; sockets = map ids_of e.1.sockets; waiting = e.1.outbox.waiting }
+
+-- a client, if it is known, as a base has it
+abbrev pub base_at : ℕ → Option PlainClient → List PlainBaseClient
+base_at c None = []
+base_at c (Some x) = base_of (c, x) ∷ []
 
 -- `after` is the state to which this base and this journal lead: its clients rise and are
 -- just the open ones, each with its sockets and what waits for it, and its pairs rise and are

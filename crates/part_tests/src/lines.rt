@@ -2,7 +2,7 @@
 
 use crate::play::{Part, play};
 use connection::{AckBook, AckError, Clock, ClockError, ClockState, Due, Line, Timing, Transport};
-use sio_wire::{SioError, SioPacket};
+use sio_wire::{Scratch, SioError, SioPacket};
 use std::alloc::Global;
 use terms::Sid;
 
@@ -118,7 +118,10 @@ impl Part for Line {
             Deed::Pong(now) => self.pong(*now),
             Deed::Connect(sid) => self.connect(Sid::new(*sid)),
             Deed::Disconnect(sid) => self.disconnect(Sid::new(*sid)),
-            Deed::Text(text, frame) => return is_frame(self.text(alloc, text), *frame),
+            Deed::Text(text, frame) => {
+                let given = self.text(alloc, &mut Scratch::new(alloc), text);
+                return is_frame(given, *frame);
+            },
             Deed::Bytes(bytes, frame) => return is_frame(self.binary(alloc, bytes), *frame),
             Deed::Ask(sid, tag, until, id) => {
                 return Ok(self.ask(alloc, Sid::new(*sid), *tag, *until)? == *id);

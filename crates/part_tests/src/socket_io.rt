@@ -2,7 +2,7 @@
 
 use crate::play::{Part, play};
 use sio_wire::{
-    Assembler, Header, Kind, SioError, SioPacket, connected_text, disconnect_text, names,
+    Assembler, Header, Kind, Scratch, SioError, SioPacket, connected_text, disconnect_text, names,
     read_header, read_offset, refused_text, resume_of, with_offset, write_header,
 };
 use std::alloc::Global;
@@ -22,6 +22,8 @@ pub enum Row {
     Ended(&'static str, &'static str),
     /// The texts among the elements of an event.
     Names(&'static str, &'static [Option<&'static str>]),
+    /// The texts of an event that are known once it is read, or that none are.
+    Known(&'static str, Option<&'static [Option<&'static str>]>),
     /// The private id and the offset that a CONNECT names.
     Resume(&'static str, Option<(&'static str, &'static str)>),
     /// No packet is whole with this text.
@@ -45,27 +47,30 @@ impl Part for Assembler {
 
     fn act(&mut self, alloc: Global, row: &Row) -> Result<bool, SioError> {
         Ok(match row {
-            Row::Text(text) => self.text(alloc, text)?.is_none(),
+            Row::Text(text) => self.text(alloc, &mut Scratch::new(alloc), text)?.is_none(),
             Row::Bytes(bytes, payload) => match self.binary(alloc, bytes)? {
                 Some(packet) => is_packet(packet, bytes, payload)?,
                 None => false,
             },
             Row::Waiting(many) => self.waiting() == *many,
             Row::Header(text, want, plain) => {
-                let header = read_header(alloc, text)?;
+                let header = read_header(alloc, &mut Scratch::new(alloc), text)?;
                 has_fields(&header, want) && write_header(alloc, &header)?.as_str() == *plain
             }
             Row::Read(text) => {
-                let _header = read_header(alloc, text)?;
+                let _header = read_header(alloc, &mut Scratch::new(alloc), text)?;
                 true
             }
             Row::Names(payload, want) => {
                 let found = names(alloc, payload)?;
-                found.len() == want.len()
-                    && found
-                        .iter()
-                        .zip(*want)
-                        .all(|(text, name)| is_text(text, *name))
+                are_texts(&found, want)
+            }
+            Row::Known(text, want) => {
+                let header = read_header(alloc, &mut Scratch::new(alloc), text)?;
+                match (header.payload.known_names(), want) {
+                    (Some(found), Some(want)) => are_texts(found, want),
+                    (found, want) => found.is_none() && want.is_none(),
+                }
             }
             Row::Resume(payload, want) => match (resume_of(alloc, payload)?, want) {
                 (Some(resume), Some(want)) => (resume.pid.as_str(), resume.offset.as_str())
@@ -96,6 +101,14 @@ fn is_text(text: &Option<Text>, want: Option<&str>) -> bool {
         (None, None) => true,
         _ => false,
     }
+}
+
+fn are_texts(found: &[Option<Text>], want: &[Option<&str>]) -> bool {
+    found.len() == want.len()
+        && found
+            .iter()
+            .zip(want)
+            .all(|(text, name)| is_text(text, *name))
 }
 
 fn has_fields(header: &Header, want: &Fields) -> bool {
@@ -263,6 +276,12 @@ fn texts_told(rt: HostRuntime) {
         (Row::Ended("/", "1"), YES),
         (Row::Ended("/admin", "1/admin,"), YES),
         (Row::Names("[\"say\",1]", &[Some("say"), None]), YES),
+        (
+            Row::Known("2[\"say\",\"r\"]", Some(&[Some("say"), Some("r")])),
+            YES,
+        ),
+        (Row::Known("2[\"say\",1]", None), YES),
+        (Row::Known("31[\"say\"]", None), YES),
         (Row::Names("{", &[]), Err(SioError::BadJson)),
         (Row::Names("{}", &[]), Err(SioError::BadShape)),
         (

@@ -7,6 +7,7 @@ ghost use Rattle.sio_wire.specs.Frames.{Frame, text as text_frame, binary as bin
 
 use crate::error::SioError;
 use crate::header::{Header, read_header};
+use json::Scratch;
 use std::alloc::Global;
 use std::marker::Model;
 use std::mem;
@@ -57,7 +58,12 @@ impl Assembler {
     /// Takes a text frame, and gives the packet that it makes whole. After an error other than
     /// `Memory` the assembler has failed: each further frame is answered with that error. After
     /// `Memory` it is as before.
-    pub fn text(&mut self, alloc: Global, text: &str) -> Result<Option<SioPacket>, SioError>
+    pub fn text(
+        &mut self,
+        alloc: Global,
+        scratch: &mut Scratch,
+        text: &str,
+    ) -> Result<Option<SioPacket>, SioError>
         ensures accepted { IfOk result (λ g. Accepts self.old (text_frame text.now) g self.new) }
         ensures spells { OnOk result ((header : Header) × Sio header text.now) }
 
@@ -68,7 +74,7 @@ impl Assembler {
             ⊎ (RefusesText self.old text.now error × (self.new ≡ Progress.Failed error))) }
     {
         let header = match &self.progress {
-            Progress::Ready => read_header(alloc, text),
+            Progress::Ready => read_header(alloc, scratch, text),
             Progress::Waiting(_) => Err(SioError::TextAwaitingBinary),
             Progress::Failed(error) => Err(*error),
         };

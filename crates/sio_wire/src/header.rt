@@ -16,6 +16,7 @@ ghost use Rattle.sio_wire.specs.Offset.{is_bracket, offset_digits, payload_with_
 use crate::error::SioError;
 use crate::payload::Payload;
 use crate::tree::check_payload;
+use json::Scratch;
 use serde_json::Value;
 use std::alloc::{AllocError, Global};
 use terms::{Text, ascii_text, id_text, read_digits, write_digits};
@@ -80,13 +81,13 @@ pub struct Header {
 /// Reads the header that a text spells. Of several faults the first one is answered: those of the
 /// parts from left to right, then those of the payload in the order `BadJson`, `BadShape`,
 /// `Reserved`, `BadPlaceholder`. `Memory` may come instead of any answer.
-pub fn read_header(alloc: Global, text: &str) -> Result<Header, SioError>
+pub fn read_header(alloc: Global, scratch: &mut Scratch, text: &str) -> Result<Header, SioError>
     ensures ok { IfOk result (λ h. Sio h text.now) }
     ensures fault { IfErr result (λ e. (e ≡ SioError.Memory) ⊎ HasFault text.now e) }
     ensures refused { IfErr result (λ e. (e ≡ SioError.Memory) ⊎ SpellsNothing text.now) }
 {
     let mut header = scan(alloc, text)?;
-    check_payload(alloc, &mut header)?;
+    check_payload(alloc, scratch, &mut header)?;
     Ok(header)
 }
 

@@ -14,5 +14,6 @@ pub use header::{
     Header, Kind, connected_text, disconnect_text, header_faults, header_texts, read_header,
     read_offset, refused_text, with_offset, write_header,
 };
+pub use json::Scratch;
 pub use payload::Payload;
 pub use tree::{Resume, names, resume_of};

@@ -39,7 +39,8 @@ pub fn names(alloc: Global, payload: &str) -> Result<Vec<Option<Text>>, SioError
     ensures ok { IfOk result (λ found. names_at payload.now ≡ Ok found.items) }
     ensures err { IfErr result (λ e. (e ≡ SioError.Memory) ⊎ (names_at payload.now ≡ Err e)) }
 {
-    if let Some(found) = texts_alone(alloc, payload)? {
+    let mut scratch = Scratch::new(alloc);
+    if let Some(found) = texts_alone(alloc, &mut scratch, payload)? {
         return Ok(found);
     }
     match &parse(alloc, payload)? {
@@ -49,13 +50,16 @@ pub fn names(alloc: Global, payload: &str) -> Result<Vec<Option<Text>>, SioError
 }
 
 /// The texts of an array that has nothing else in it, as most events have: no tree is needed.
-fn texts_alone(alloc: Global, payload: &str) -> Result<Option<Vec<Option<Text>>>, AllocError>
+fn texts_alone(
+    alloc: Global,
+    scratch: &mut Scratch,
+    payload: &str,
+) -> Result<Option<Vec<Option<Text>>>, AllocError>
     ensures { IfOk result (λ found. MatchOption found
         ((texts : List (List ℕ)) → ¬ IsArrayOf texts payload.now)
         (λ names. AreAlone names.items payload.now)) }
 {
-    let mut scratch = Scratch::new(alloc);
-    let mut reader = Reader::new(payload, &mut scratch)?;
+    let mut reader = Reader::new(payload, scratch)?;
     match reader.next() {
         Some(Token::BeginArray) => texts_left(alloc, &mut reader),
         _ => Ok(None),
@@ -141,11 +145,15 @@ pub fn resume_of(alloc: Global, payload: &str) -> Result<Option<Resume>, SioErro
 
 /// Looks at the payload of a header whose parts were read. Where it is a plain event, as most are,
 /// its texts are known then, and no tree is needed.
-pub(crate) fn check_payload(alloc: Global, header: &mut Header) -> Result<(), SioError>
+pub(crate) fn check_payload(
+    alloc: Global,
+    scratch: &mut Scratch,
+    header: &mut Header,
+) -> Result<(), SioError>
     ensures checked { Checks header.old result }
     ensures same { header.new ≡ header.old }
 {
-    if let Some(names) = plain_names(alloc, header)? {
+    if let Some(names) = plain_names(alloc, scratch, header)? {
         header.payload.know(names);
         return Ok(());
     }
@@ -163,7 +171,11 @@ pub(crate) fn check_payload(alloc: Global, header: &mut Header) -> Result<(), Si
 }
 
 /// The texts of a plain event: one that has nothing else in its payload, and a name that is free.
-fn plain_names(alloc: Global, header: &Header) -> Result<Option<Vec<Option<Text>>>, AllocError>
+fn plain_names(
+    alloc: Global,
+    scratch: &mut Scratch,
+    header: &Header,
+) -> Result<Option<Vec<Option<Text>>>, AllocError>
     ensures { IfOk result (λ found. MatchOption found (¬ IsPlainEvent header.now)
         (λ names. HasPlainNames header.now names.items)) }
 {
@@ -172,7 +184,7 @@ fn plain_names(alloc: Global, header: &Header) -> Result<Option<Vec<Option<Text>
     if header.kind != Kind::Event || payload.as_bytes().contains(&0x1e) {
         return Ok(None);
     }
-    let Some(names) = texts_alone(alloc, payload)? else {
+    let Some(names) = texts_alone(alloc, scratch, payload)? else {
         return Ok(None);
     };
     if begins_with_name(&names) {

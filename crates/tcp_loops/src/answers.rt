@@ -124,7 +124,7 @@ impl<R: Wait + Clock + Copy + Drop, L: Log> Driver<'_, R, L> {
         }
         let client = self.connections.links.client(key);
         let rests = client.is_some_and(|client| self.shown.rests(client));
-        let before = self.connections.seen(key).unsent;
+        let before = self.connections.unsent(key);
         let what = self.connections.hear(key, got, rests, now);
         let seen = self.connections.seen(key);
         self.round = self

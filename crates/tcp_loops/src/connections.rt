@@ -106,6 +106,16 @@ impl<'a, R: Clock + Drop> Connections<'a, R> {
         }
     }
 
+    /// How many bytes of it are unsent.
+    pub fn unsent(&self, key: usize) -> usize
+        ensures { result ≡ (all.seen_at key self.now).unsent }
+    {
+        match self.slots.get(key) {
+            Some(connection) => connection.service.unsent(),
+            None => 0,
+        }
+    }
+
     /// Takes a connection out.
     pub fn take(&mut self, key: usize) -> Option<Box<Connection<'a, R>>>
         ensures taken { result ≡ connection_at key self.old }

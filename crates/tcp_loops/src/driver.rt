@@ -386,7 +386,7 @@ impl<'a, R: Wait + Clock + Copy + Drop, L: Log> Driver<'a, R, L> {
             _ => return,
         }
         // What it has to send goes out at the end of the round, or at once where it is much.
-        if is_much_unsent(self.connections.seen(key).unsent) {
+        if is_much_unsent(self.connections.unsent(key)) {
             self.send(key);
         } else {
             self.connections.links.note_unsent(key);

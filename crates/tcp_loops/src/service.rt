@@ -85,6 +85,18 @@ impl<'a, R: Clock + Drop> Service<'a, R> {
         }
     }
 
+    /// How many bytes of its stream are unsent.
+    pub(crate) fn unsent(&self) -> usize
+        ensures { result ≡ (services.seen_of self.now).unsent }
+    {
+        match self {
+            Service::Gathering { stream, .. } | Service::Answered { stream, .. } => stream.unsent(),
+            Service::Polling(peer) => peer.wire().get_ref().unsent(),
+            Service::Speaking(peer) => peer.stream().get_ref().unsent(),
+            Service::Gone => 0,
+        }
+    }
+
     /// This befalls its stream, if that is still here.
     pub(crate) fn change(&mut self, change: Change)
         ensures { services.Turns (services.ChangedBy change) self.old self.new }

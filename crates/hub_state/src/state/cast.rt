@@ -3,10 +3,10 @@
 //! documentation, "Rooms" and "Adapter"; Socket.IO protocol 5, "Sending and receiving data" and
 //! "Acknowledgement").
 
+ghost use Rattle.hub_state.specs.Seats.{seat_at};
 ghost use Rattle.std.specs.Prelude.{◌≡◌, ◌≢◌, not, filter, IfOk, OnOk, ◌<◌, ◌≤◌, ◌^◌, ℕ, true, false, map, nat_eq, None, Some, Ok, IfSome, IfErr, OnErr, [], length, get_or};
 ghost use Rattle.std.specs.List.{flat_map, list_any, IsDistinct, AllByRecursion};
-ghost use Rattle.std.specs.Ordering.{nat_cmp};
-ghost use Rattle.std.specs.BTreeMap.{get};
+ghost use Rattle.std.specs.HashMap.{get};
 ghost use Rattle.std.specs.Arc.{arc_value};
 ghost use Rattle.room_maps.specs.Membership.{is_in};
 ghost use Rattle.room_maps.specs.Addressed.{is_addressed};
@@ -44,7 +44,7 @@ pub(crate) fn sockets_in(
     space: u16,
 ) -> Result<Vec<Socket>, AllocError>
     ensures ok { IfOk result (λ sockets. sockets.items
-        ≡ flat_map (λ s. in_space space (get nat_cmp seats.now s)) sids.now) }
+        ≡ flat_map (λ s. in_space space (seat_at seats.now s)) sids.now) }
 {
     let mut sockets = Vec::with_capacity(alloc, sids.len())?;
     for sid in sids {
@@ -74,7 +74,7 @@ fn retain_outside(sids: &mut Vec<Sid>, inside: &Rooms, rooms: &[Room])
 
 /// Whether the client's outbox has no space for the entry.
 pub(crate) fn is_full(clients: &Clients, client: u128, entry: &Entry) -> bool
-    ensures { result ≡ is_full_in (get nat_cmp clients.now) entry.now client }
+    ensures { result ≡ is_full_in (get nat_eq clients.now) entry.now client }
 {
     clients
         .get(&client)
@@ -89,9 +89,9 @@ pub(crate) fn messages_for(
     entry: &Arc<Entry>,
 ) -> Result<(Vec<Message>, Vec<Sid>), AllocError>
     ensures told { IfOk result (λ both. both.0.items
-        ≡ casting.messages_for (get nat_cmp clients.now) (arc_value entry.now) sockets.now) }
+        ≡ casting.messages_for (get nat_eq clients.now) (arc_value entry.now) sockets.now) }
     ensures missing { IfOk result (λ both. both.1.items
-        ≡ casting.missing (get nat_cmp clients.now) (arc_value entry.now) sockets.now) }
+        ≡ casting.missing (get nat_eq clients.now) (arc_value entry.now) sockets.now) }
 {
     let mut messages = Vec::with_capacity(alloc, sockets.len())?;
     let mut missing = Vec::new(alloc);
@@ -125,11 +125,11 @@ pub(crate) fn put_messages(
 ) -> Result<(), AllocError>
     requires apart { IsDistinct nat_eq (map receiver_of messages.items) }
     requires places { AllByRecursion (λ m.
-        is_full_in (get nat_cmp clients.old) m.entry m.client ≡ false) messages.items }
+        is_full_in (get nat_eq clients.old) m.entry m.client ≡ false) messages.items }
     requires receivers { receivers.now ≡ map receiver_of messages.items }
     ensures ok { OnOk result ((q : ℕ) → let puts = entries_for q (map pair_of messages.items)
-        in get nat_cmp clients.new q
-        ≡ option_map (with_entries puts) (get nat_cmp clients.old q)) }
+        in get nat_eq clients.new q
+        ≡ option_map (with_entries puts) (get nat_eq clients.old q)) }
     ensures err { OnErr result (SameClients clients.old clients.new) }
 {
     let mut put = 0;
@@ -150,7 +150,7 @@ fn put_if_it_fits(
     entry: &Arc<Entry>,
 ) -> Result<bool, AllocError>
     ensures fits { IfOk result (λ put.
-        put ≡ not (is_full_in (get nat_cmp clients.old) (arc_value entry.now) client)) }
+        put ≡ not (is_full_in (get nat_eq clients.old) (arc_value entry.now) client)) }
     ensures put { result ≡ Ok true
         → ChangesClient (with_entry (arc_value entry.now)) client clients.old clients.new }
     ensures same { result ≢ Ok true → SameClients clients.old clients.new }
@@ -175,12 +175,12 @@ fn put_each(
 ) -> Result<(Vec<u128>, Vec<Sid>), AllocError>
     requires apart { IsDistinct nat_eq (map client_of sockets.now) }
     ensures told { IfOk result (λ both. both.0.items ≡ map receiver_of
-        (casting.messages_for (get nat_cmp clients.old) (arc_value entry.now) sockets.now)) }
+        (casting.messages_for (get nat_eq clients.old) (arc_value entry.now) sockets.now)) }
     ensures missing { IfOk result (λ both. both.1.items
-        ≡ casting.missing (get nat_cmp clients.old) (arc_value entry.now) sockets.now) }
-    ensures put { OnOk result ((q : ℕ) → get nat_cmp clients.new q ≡ option_map (with_entries
-        (entries_for q (map pair_of (casting.messages_for (get nat_cmp clients.old)
-        (arc_value entry.now) sockets.now)))) (get nat_cmp clients.old q)) }
+        ≡ casting.missing (get nat_eq clients.old) (arc_value entry.now) sockets.now) }
+    ensures put { OnOk result ((q : ℕ) → get nat_eq clients.new q ≡ option_map (with_entries
+        (entries_for q (map pair_of (casting.messages_for (get nat_eq clients.old)
+        (arc_value entry.now) sockets.now)))) (get nat_eq clients.old q)) }
     ensures err { OnErr result (SameClients clients.old clients.new) }
 {
     let mut reached = Vec::with_capacity(alloc, sockets.len())?;

@@ -1,9 +1,8 @@
 //! Clients are opened and closed, or lost, so that their sockets' sessions are saved; what is
 //! outdated is dropped (Socket.IO server documentation, "Connection state recovery").
 
-ghost use Rattle.std.specs.Prelude.{◌≡◌, ℕ, length, ◌==◌, IfOk, if◌then◌else◌, None, OnOk, OnErr, ◌+◌};
-ghost use Rattle.std.specs.Ordering.{nat_cmp};
-ghost use Rattle.std.specs.BTreeMap.{get};
+ghost use Rattle.std.specs.Prelude.{◌≡◌, ℕ, length, ◌==◌, IfOk, if◌then◌else◌, None, OnOk, OnErr, ◌+◌, nat_eq};
+ghost use Rattle.std.specs.HashMap.{get};
 ghost use Rattle.journal.specs.Command.{Does};
 ghost use Rattle.journal.specs.Fields.{new_client, held_entries};
 ghost use Rattle.journal.specs.declared.step.What.{What};
@@ -32,9 +31,9 @@ fn new_client(alloc: Global, config: &Config) -> Result<Client, AllocError>
 
 /// Forgets a client, and says how many entries waited for it.
 fn forget_client(clients: &mut Clients, client: u128) -> u64
-    ensures discards { result ≡ length (held_entries (get nat_cmp clients.old client)) }
-    ensures clients { (q : ℕ) → get nat_cmp clients.new q
-        ≡ (if client == q then None else get nat_cmp clients.old q) }
+    ensures discards { result ≡ length (held_entries (get nat_eq clients.old client)) }
+    ensures clients { (q : ℕ) → get nat_eq clients.new q
+        ≡ (if client == q then None else get nat_eq clients.old q) }
 {
     match clients.remove(&client) {
         Some(known) => known.outbox.len() as u64,
@@ -95,8 +94,8 @@ fn save_all(
 
 impl State {
     /// Opens a client, with no sockets and an empty outbox, which takes its memory as entries come.
-    /// Refused as `IdTaken`, `TooManyClients`, `Spent`, then for `Memory`. It takes the logarithm
-    /// of the clients.
+    /// Refused as `IdTaken`, `TooManyClients`, `Spent`, then for `Memory`. It takes one look-up,
+    /// and where the map of clients grows their number.
     pub fn open(&mut self, alloc: Global, client: u128, now: u64) -> Result
         ensures { Does self.old self.new now (What.Opened client) result }
     {
@@ -115,8 +114,8 @@ impl State {
     }
 
     /// Closes a client: its sockets end, nothing of them is saved, and what waits for it is
-    /// discarded. Refused as `UnknownClient`, `Spent`, then for `Memory`. It takes the logarithm of
-    /// the clients, and for each room of its sockets that of the sockets and of the rooms.
+    /// discarded. Refused as `UnknownClient`, `Spent`, then for `Memory`. It takes for each
+    /// room of its sockets the logarithm of the sockets and of the rooms.
     pub fn close(&mut self, alloc: Global, client: u128, now: u64) -> Result
         ensures { Does self.old self.new now (What.Closed client) result }
     {

@@ -2,7 +2,7 @@
 
 ghost use Rattle.std.specs.Prelude.{◌≡◌, ℕ, ◌≤◌, true, false, [], length, OnOk, OnErr, IfOk, IfErr, None, Some, get_or};
 ghost use Rattle.std.specs.Option.{option_map};
-ghost use Rattle.std.specs.BTreeMap.{get};
+ghost use Rattle.std.specs.HashMap.{get};
 ghost use Rattle.std.specs.Arc.{arc_value};
 ghost use Rattle.terms.specs.Entry.{entry_size};
 ghost use Rattle.journal.specs.Membership.{place_of, is_space, is_connected, sid_of, socket_of};
@@ -125,8 +125,8 @@ impl State {
         find_at(&self.clients.get(&client)?.sockets, place).copied()
     }
 
-    /// The session id of a client's socket in a namespace. It takes the logarithm of the clients and
-    /// of the namespaces, and looks at the client's sockets.
+    /// The session id of a client's socket in a namespace. It takes the logarithm of the namespaces,
+    /// and looks at the client's sockets.
     pub fn socket_of(&self, client: u128, space: &str) -> Option<Sid>
         ensures { let place = place_of self.now.limits space.now
             in result ≡ option_map sid_of (socket_of self.now.base self.now.journal client place) }
@@ -226,7 +226,7 @@ impl State {
 
     /// Connects a client's new socket to a namespace: it is in its own room, and the answer to the
     /// CONNECT is put. Refused as `UnknownClient`, `UnknownNamespace`, `AlreadyConnected`,
-    /// `IdTaken`, `OutboxFull`, `Spent`, then for `Memory`. It takes the logarithm of the clients,
+    /// `IdTaken`, `OutboxFull`, `Spent`, then for `Memory`. It takes the logarithm of the
     /// sockets, namespaces and saved sessions.
     pub fn attach(
         &mut self,

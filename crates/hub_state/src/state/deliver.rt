@@ -1,8 +1,7 @@
 //! Entries are put into clients' outboxes and handed out.
 
-ghost use Rattle.std.specs.Prelude.{◌≡◌, ◌+◌, ◌≤◌, ◌++◌, false, length, map, min, take, string_bytes, IfOk, IfErr, IfSome, OnOk, OnErr, None, Some, vec_capacity, vec_len};
-ghost use Rattle.std.specs.Ordering.{nat_cmp};
-ghost use Rattle.std.specs.BTreeMap.{get};
+ghost use Rattle.std.specs.Prelude.{◌≡◌, ◌+◌, ◌≤◌, ◌++◌, false, length, map, min, take, string_bytes, IfOk, IfErr, IfSome, OnOk, OnErr, None, Some, vec_capacity, vec_len, nat_eq};
+ghost use Rattle.std.specs.HashMap.{get};
 ghost use Rattle.std.specs.Arc.{arc_value};
 ghost use Rattle.journal.specs.Outboxes.{has_no_space};
 ghost use Rattle.journal.specs.Command.{Does};
@@ -24,7 +23,7 @@ fn hand_out(clients: &mut Clients, client: u128, count: usize, taken: &mut Vec<A
     requires { vec_len taken.old + count ≤ vec_capacity taken.old }
     ensures left { ChangesClient (without_first count) client clients.old clients.new }
     ensures taken { map arc_value taken.new.items ≡ map arc_value taken.old.items
-        ++ take count (held_entries (get nat_cmp clients.old client)) }
+        ++ take count (held_entries (get nat_eq clients.old client)) }
 {
     if let Some(known) = clients.get_mut(&client) {
         known.outbox.take_first(count, taken);
@@ -46,7 +45,7 @@ pub(crate) fn put_entry(
     client: u128,
     entry: Arc<Entry>,
 ) -> Result<(), AllocError>
-    requires { IfSome (get nat_cmp clients.old client) (λ known. let outbox = known.outbox
+    requires { IfSome (get nat_eq clients.old client) (λ known. let outbox = known.outbox
         in has_no_space outbox.capacity outbox.bytes outbox.waiting (arc_value entry) ≡ false) }
     ensures ok { OnOk result
         (ChangesClient (with_entry (arc_value entry)) client clients.old clients.new) }
@@ -69,7 +68,7 @@ pub(crate) fn take_back(clients: &mut Clients, client: u128, count: usize)
 
 impl State {
     /// Puts an entry at the end of a client's outbox. Refused as `UnknownClient`, `OutboxFull`,
-    /// `Spent`, then for `Memory`. It takes the logarithm of the clients.
+    /// `Spent`, then for `Memory`. It takes one look-up.
     pub fn tell(&mut self, alloc: Global, client: u128, entry: Entry, now: u64) -> Result
         ensures { Does self.old self.new now (told client entry) result }
     {
@@ -105,8 +104,8 @@ impl State {
     }
 
     /// Hands out the first `most` entries that wait for a client, or all where fewer wait. Refused
-    /// as `UnknownClient`, `Spent`, then for `Memory`. It takes the logarithm of the clients, and
-    /// copies what it hands out.
+    /// as `UnknownClient`, `Spent`, then for `Memory`. It looks the client up, and copies what
+    /// it hands out.
     pub fn take(&mut self, alloc: Global, client: u128, most: usize, now: u64) -> Result<Vec<Entry>>
         ensures entries { IfOk result (λ all. all.items ≡ take most (waits self.old client)) }
         ensures does { Does self.old self.new now (took self.old client most) result }

@@ -1,7 +1,7 @@
 //! Sockets are ended, alone or many of a namespace, and noted (Socket.IO server documentation,
 //! "Server API": `disconnectSockets`, and the events `disconnecting` and `disconnect`).
 
-ghost use Rattle.std.specs.Prelude.{◌≡◌, min, map, true, IfOk, Some, ℕ, ◌==◌, false, if◌then◌else◌};
+ghost use Rattle.std.specs.Prelude.{◌≡◌, min, map, true, IfOk, Some, ℕ, ◌==◌, false, if◌then◌else◌, nat_eq};
 ghost use Rattle.hub_state.specs.EndedSockets.{ended_size, PlainEnded, as_ended, ended_sockets};
 ghost use Rattle.std.specs.List.{AllByRecursion, list_any};
 ghost use Rattle.journal.specs.Membership.{is_space, sockets_of, place_of};
@@ -13,8 +13,7 @@ ghost use Rattle.journal.specs.declared.step.What.{What};
 ghost use Rattle.hub_state.specs.Seats.{WithoutSeat};
 ghost use Rattle.hub_state.specs.Changes.{ChangesClient, WithoutPid, WithoutSockets, CanForget, MakesStep};
 ghost use Rattle.std.specs.Option.{option_map};
-ghost use Rattle.std.specs.Ordering.{nat_cmp};
-ghost use Rattle.std.specs.BTreeMap.{get};
+ghost use Rattle.std.specs.HashMap.{get};
 ghost use Rattle.journal.specs.ManySockets.{dismissal};
 ghost use Rattle.journal.specs.Totals.{is_spent};
 ghost use Rattle.journal.specs.declared.socket.Socket.{Socket};
@@ -127,10 +126,10 @@ impl Live {
 
 /// Takes the sockets, which are all at this place, out of their clients' lists.
 fn drop_all(clients: &mut Clients, sockets: &[Socket], place: usize)
-    ensures { (q : ℕ) → get nat_cmp clients.new q
+    ensures { (q : ℕ) → get nat_eq clients.new q
         ≡ (if list_any (λ (k : Socket). k.client == q) sockets.now
-        then option_map (without_place place) (get nat_cmp clients.old q)
-        else get nat_cmp clients.old q) }
+        then option_map (without_place place) (get nat_eq clients.old q)
+        else get nat_eq clients.old q) }
 {
     for socket in sockets {
         drop_from(clients, socket.client, place);
@@ -159,8 +158,8 @@ impl State {
     }
 
     /// Ends a socket alone, by this side: nothing is saved. Refused as `UnknownSocket`, `Spent`,
-    /// then for `Memory`. It takes the logarithm of the clients, and for each of its rooms that of
-    /// the sockets and rooms.
+    /// then for `Memory`. It takes for each of the socket's rooms the logarithm of the sockets and
+    /// rooms.
     pub fn end(&mut self, alloc: Global, sid: Sid, by: Side, now: u64) -> Result
         ensures { Does self.old self.new now (What.Ended sid by) result }
     {

@@ -1,14 +1,13 @@
 //! Saved sessions come back, with what they have missed (Socket.IO server documentation,
 //! "Connection state recovery").
 
-ghost use Rattle.std.specs.Prelude.{◌≡◌, ◌+◌, ◌≤◌, ◌||◌, true, ◌++◌, length, map, filter, nat_lt, OnOk, IfSome, IfNone, ℕ, ◌^◌, ◌<◌, false, IfOk, IfErr, OnErr, None, Some, is_some};
+ghost use Rattle.std.specs.Prelude.{◌≡◌, ◌+◌, ◌≤◌, ◌||◌, true, ◌++◌, length, map, filter, nat_lt, OnOk, IfSome, IfNone, ℕ, ◌^◌, ◌<◌, false, IfOk, IfErr, OnErr, None, Some, is_some, nat_eq};
 ghost use Rattle.std.specs.Arc.{arc_value};
 ghost use Rattle.recovery.specs.Missed.{is_for};
 ghost use Rattle.journal.specs.Outboxes.{total_size, waiting};
 ghost use Rattle.journal.specs.Recovery.{gets, brought_back, with_entries};
 ghost use Rattle.hub_state.specs.Recovering.{gets_back, recovery_asked, recover_refusal_of, puts_again};
-ghost use Rattle.std.specs.Ordering.{nat_cmp};
-ghost use Rattle.std.specs.BTreeMap.{get};
+ghost use Rattle.std.specs.HashMap.{get};
 ghost use Rattle.recovery.specs.PacketLog.{later_than};
 ghost use Rattle.terms.specs.Entry.{entry_size};
 ghost use Rattle.journal.specs.Journal.{moment_at};
@@ -128,10 +127,10 @@ fn push_all(outbox: &mut Outbox, entries: Vec<Arc<Entry>>) -> Result<(), AllocEr
 
 /// Puts entries at the end of a client's outbox, or where memory is refused none.
 fn put_all(clients: &mut Clients, client: u128, entries: Vec<Arc<Entry>>) -> Result<(), AllocError>
-    requires places { IfSome (get nat_cmp clients.old client) (λ known.
+    requires places { IfSome (get nat_eq clients.old client) (λ known.
         length known.outbox.waiting + length entries.items ≤ known.outbox.capacity) }
     requires bytes { let puts = map arc_value entries.items
-        in IfSome (get nat_cmp clients.old client) (λ known.
+        in IfSome (get nat_eq clients.old client) (λ known.
         total_size known.outbox.waiting + total_size puts ≤ known.outbox.bytes) }
     ensures ok { let puts = map arc_value entries.items
         in OnOk result (ChangesClient (with_entries puts) client clients.old clients.new) }
@@ -317,7 +316,7 @@ impl State {
     /// it has missed past this offset, whose data is shared with the log. It gives the session id.
     /// Refused as `UnknownClient`, `UnknownNamespace`, `AlreadyConnected`, `NotRecoverable` with
     /// `UnknownPid`, `Expired` or `OffsetGone`, `OutboxFull`, `Spent`, then for `Memory`. It takes
-    /// the logarithm of the clients, sockets, namespaces and saved sessions, walks what the log has
+    /// the logarithm of the sockets, namespaces and saved sessions, walks what the log has
     /// past the offset twice, first to see whether there is space for all, then to share it, and
     /// each of the session's rooms takes the logarithm of the sockets and of the rooms.
     ///

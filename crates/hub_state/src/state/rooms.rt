@@ -2,9 +2,8 @@
 //! (Socket.IO server documentation, "Rooms", and "Server API", `socketsJoin`, `socketsLeave`,
 //! `fetchSockets` and `socket.rooms`).
 
+ghost use Rattle.hub_state.specs.Seats.{seat_at};
 ghost use Rattle.std.specs.Prelude.{◌≡◌, not, filter, IfOk, true, false, IfErr, Err, MatchBool, if◌then◌else◌};
-ghost use Rattle.std.specs.Ordering.{nat_cmp};
-ghost use Rattle.std.specs.BTreeMap.{get};
 ghost use Rattle.room_maps.specs.Membership.{is_in};
 ghost use Rattle.journal.specs.Membership.{place_of, is_space, sockets, matches};
 ghost use Rattle.journal.specs.Command.{Does, refusal};
@@ -33,7 +32,7 @@ fn keep_members(sids: &mut Vec<Sid>, inside: &Rooms, room: Room, members: bool)
 
 /// Whether the socket with an id is in the namespace at a place.
 fn is_here(seats: &Seats, sid: Sid, space: u16) -> bool
-    ensures { result ≡ casting.is_here space (get nat_cmp seats.now sid) }
+    ensures { result ≡ casting.is_here space (seat_at seats.now sid) }
 {
     matches!(seats.get(sid), Some(socket) if socket.space == space)
 }
@@ -41,7 +40,7 @@ fn is_here(seats: &Seats, sid: Sid, space: u16) -> bool
 /// Keeps the sockets that are in the namespace at a place.
 pub(crate) fn keep_here(sids: &mut Vec<Sid>, seats: &Seats, space: u16)
     ensures { sids.new.items
-        ≡ filter (λ s. casting.is_here space (get nat_cmp seats.now s)) sids.old.items }
+        ≡ filter (λ s. casting.is_here space (seat_at seats.now s)) sids.old.items }
 {
     sids.retain(|sid| is_here(seats, *sid, space));
 }

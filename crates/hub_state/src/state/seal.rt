@@ -1,9 +1,11 @@
 //! The present state becomes the base.
 
-ghost use Rattle.std.specs.Prelude.{◌≡◌, map, IfOk};
+ghost use Rattle.std.specs.Prelude.{◌≡◌, map, IfOk, is_some, nat_eq};
+ghost use Rattle.std.specs.List.{flat_map};
 ghost use Rattle.std.specs.Ordering.{nat_cmp};
-ghost use Rattle.std.specs.BTreeMap.{IsOrdered};
-ghost use Rattle.journal.specs.Seal.{ids_of, base_of, LeadsTo, Seals};
+ghost use Rattle.std.specs.HashMap.{get};
+ghost use Rattle.terms.specs.Listing.{ListsRising};
+ghost use Rattle.journal.specs.Seal.{ids_of, base_at, LeadsTo, Seals};
 ghost use Rattle.hub_state.specs.Words.{RunsOn};
 
 use crate::client::Clients;
@@ -24,18 +26,34 @@ fn socket_ids(alloc: Global, sockets: &[Socket]) -> Result<Vec<(u16, Sid, Pid)>,
         .collect(alloc)
 }
 
-/// All clients as a base has them, rising. They share the entries that wait.
-fn copy_clients(alloc: Global, clients: &Clients) -> Result<Vec<BaseClient>, AllocError>
-    ensures ordered { IsOrdered nat_cmp clients.now }
-    ensures clients { IfOk result (λ copies. copies.items ≡ map base_of clients.now.entries) }
+/// The ids of the open clients, rising.
+fn ids_rising(alloc: Global, clients: &Clients) -> Result<Vec<u128>, AllocError>
+    ensures { IfOk result (λ ids.
+        ListsRising nat_cmp (λ c. is_some (get nat_eq clients.now c)) ids.items) }
 {
-    let mut copies = Vec::with_capacity(alloc, clients.len())?;
-    for (client, known) in clients {
-        copies.push(BaseClient {
-            client: *client,
-            sockets: socket_ids(alloc, &known.sockets)?,
-            waiting: known.outbox.share_first(alloc, known.outbox.len())?,
-        })?;
+    let mut ids: Vec<u128> = clients.keys().copied().collect(alloc)?;
+    ids.sort_unstable();
+    Ok(ids)
+}
+
+/// These clients as a base has them. They share the entries that wait.
+fn copy_clients(
+    alloc: Global,
+    clients: &Clients,
+    ids: &[u128],
+) -> Result<Vec<BaseClient>, AllocError>
+    ensures { IfOk result (λ copies. copies.items
+        ≡ flat_map (λ c. base_at c (get nat_eq clients.now c)) ids.now) }
+{
+    let mut copies = Vec::with_capacity(alloc, ids.len())?;
+    for client in ids {
+        if let Some(known) = clients.get(client) {
+            copies.push(BaseClient {
+                client: *client,
+                sockets: socket_ids(alloc, &known.sockets)?,
+                waiting: known.outbox.share_first(alloc, known.outbox.len())?,
+            })?;
+        }
     }
     Ok(copies)
 }
@@ -47,7 +65,8 @@ impl State {
             LeadsTo self.now.base self.now.limits self.now.journal base) }
         ensures run { IfOk result (λ _. RunsOn self.now) }
     {
-        let clients = copy_clients(alloc, &self.clients)?;
+        let ids = ids_rising(alloc, &self.clients)?;
+        let clients = copy_clients(alloc, &self.clients, &ids)?;
         let Ok(pairs) = self.live.rooms.pairs(alloc) else {
             return Err(AllocError);
         };

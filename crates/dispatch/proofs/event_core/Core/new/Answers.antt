@@ -9,5 +9,5 @@ invariant_of-result g c =
     let is = ap (λ (hub : PlainHub). hub.history) c.in-Ok.ensures.hub in
     (agree-fresh c.args.config _ _ is c.new-lines.ensures.empty, clean-fresh c.args.config _ c.in-Ok.ensures.config is)
 
-pub returns-in-Ok-clause-handed : goal.returns-in-Ok-clause-handed
-returns-in-Ok-clause-handed g c = λ d. handed-fresh c.args.config _ (ap (λ (hub : PlainHub). hub.history) c.in-Ok.ensures.hub) d
+pub returns-in-Ok-new-clause-handed : goal.returns-in-Ok-new-clause-handed
+returns-in-Ok-new-clause-handed g c = λ d. handed-fresh c.args.config _ (ap (λ (hub : PlainHub). hub.history) c.in-Ok.ensures.hub) d

@@ -7,7 +7,7 @@ use Rattle.hub_state.proofs.seats.Seats.remove.Goals as goal
 
 pub invariant_of-self : goal.invariant_of-self
 invariant_of-self c =
-    index_removed c.self.inside.by_sid c.remove.new.self c.self.inside.by_space c.remove-in-Some.new.self c.args.sid c.in-Some.socket c.self.invariant (sym c.in-Some.ensures.value) c.remove.ensures.updates.0
+    index_removed c.self.inside.by_sid.entries c.remove.new.self.entries c.self.inside.by_space c.remove-in-Some.new.self c.args.sid c.in-Some.socket c.self.invariant (rw c.number.ensures at (sym c.in-Some.ensures.value)) (rw c.number.ensures at c.remove.ensures.updates.0)
     (λ q. c.remove-in-Some.ensures.updates.0 q ∙ (λ i. cond (is_at (seat_cmp (c.from.ensures i, c.args.sid)) q) false (sorted.contains seat_cmp c.self.inside.by_space q)))
 
 pub returns-in-Some : goal.returns-in-Some

@@ -1,7 +1,7 @@
+use Rattle.hub_state.specs.Seats.{seat_at}
 use Rattle.std.proofs.Common.{◌≡◌, ℕ, Bool, List, map, subst, rules}
 use Rattle.std.specs.Prelude.{IfOk}
 use Rattle.std.specs.Ordering.{nat_cmp}
-use Rattle.std.specs.BTreeMap.{get}
 use Rattle.terms.specs.Listing.{ListsRising}
 use Rattle.journal.specs.Casting.{is_here}
 use Rattle.hub_state.proofs.SeatsLemmas.{lists-place, listed}
@@ -20,6 +20,6 @@ returns c =
     let set = c.self.inside.by_space in
     let items = subst (λ qs. IfOk c.collect.result (λ sids. sids.items ≡ map (λ q. q.1) qs)) (c.range-here.ensures.between tt) (given c) in
     rw (← c.self.view_is)
-    (listed (λ s. is_here c.args.space (get nat_cmp c.self.inside.by_sid s)) (λ v. v.items) _ c.collect.result
+    (listed (λ s. is_here c.args.space (seat_at c.self.inside.by_sid.entries s)) (λ v. v.items) _ c.collect.result
     (rw (c.from-place.ensures, c.new-least.ensures) at items)
     (retold _ _ _ (c.self.invariant.mirror c.args.space) (lists-place c.args.space set.keys c.range-here.ensures.ordered)))

@@ -1,7 +1,7 @@
+use Rattle.hub_state.specs.Seats.{seat_at}
 use Rattle.std.proofs.Common.{refl, false, None, subst, arith}
 use Rattle.std.proofs.lemmas.List.{take_all}
 use Rattle.std.specs.Ordering.{nat_cmp}
-use Rattle.std.specs.BTreeMap.{get}
 use Rattle.std.specs.BTreeSet as sorted
 use Rattle.journal.specs.Membership.{sid_of, pid_of, without_sockets}
 use Rattle.journal.proofs.EndLemmas.{next-known, forgotten-next, out-more}
@@ -18,7 +18,7 @@ forget-requires c =
 
 pub loop-socket-preserved : goal.loop-socket-preserved
 loop-socket-preserved c = (
-  forgotten-next sid_of None c.socket-item.result c.loop-socket.socket-index c.args.sockets.now (get nat_cmp c.args.self.now.seats) (get nat_cmp c.loop-socket.self.seats) (get nat_cmp c.forget.new.self.seats)
+  forgotten-next sid_of None c.socket-item.result c.loop-socket.socket-index c.args.sockets.now (seat_at c.args.self.now.seats) (seat_at c.loop-socket.self.seats) (seat_at c.forget.new.self.seats)
       c.loop-socket-test.true c.socket-item.is c.loop-socket.invariant.0 c.forget.ensures.seats,
   forgotten-next pid_of false c.socket-item.result c.loop-socket.socket-index c.args.sockets.now (sorted.contains nat_cmp c.args.self.now.pids) (sorted.contains nat_cmp c.loop-socket.self.pids) (sorted.contains nat_cmp c.forget.new.self.pids)
       c.loop-socket-test.true c.socket-item.is c.loop-socket.invariant.1 c.forget.ensures.pids,

@@ -1,6 +1,7 @@
-use Rattle.std.proofs.Common.{rules, ◌≡◌, ◌||◌, ◌==◌, ◌∙◌, sym, ap, map, length, ℕ, Some, if◌then◌else◌, refl}
+use Rattle.hub_state.specs.Seats.{seat_at}
+use Rattle.std.proofs.Common.{rules, ◌≡◌, ◌||◌, ◌==◌, ◌∙◌, sym, ap, map, length, ℕ, Some, if◌then◌else◌, refl, nat_eq}
 use Rattle.std.specs.Ordering.{nat_cmp}
-use Rattle.std.specs.BTreeMap.{get}
+use Rattle.std.specs.HashMap.{get}
 use Rattle.std.specs.BTreeSet as sorted
 use Rattle.std.specs.Arc.{arc_value}
 use Rattle.std.proofs.lemmas.List.{length-map}
@@ -13,7 +14,7 @@ use Rattle.hub_state.proofs.state.State.bring_back.Goals as goal
 pub seat-requires-clause-alone : goal.seat-requires-clause-alone
 seat-requires-clause-alone c =
     let b = comes-back c.self.inside _ _ c.recovery.inside.socket _ c.args.now c.self.invariant c.self.view_is (ap (λ r. r.socket) c.recovery.view_is) c.requires.accepted c.requires.right c.requires.puts in
-    still-alone (get nat_cmp c.self.inside.clients) (get nat_cmp c.put_all.new.clients) c.recovery.inside.socket.client c.recovery.inside.socket.space (map arc_value c.args.puts.items) c.in_ok-put_all.ensures.ok b.alone
+    still-alone (get nat_eq c.self.inside.clients) (get nat_eq c.put_all.new.clients) c.recovery.inside.socket.client c.recovery.inside.socket.space (map arc_value c.args.puts.items) c.in_ok-put_all.ensures.ok b.alone
 
 pub seat-requires-clause-new : goal.seat-requires-clause-new
 seat-requires-clause-new c =
@@ -36,11 +37,11 @@ invariant_of-self-2 c =
     let b = comes-back c.self.inside _ _ c.recovery.inside.socket _ c.args.now c.self.invariant c.self.view_is (ap (λ r. r.socket) c.recovery.view_is) c.requires.accepted c.requires.right c.requires.puts in
     let number : c.len-count.result ≡ length c.args.puts.items = search rules in
     let ids = rw c.deref.ensures.value at c.in_default.ensures.ids in
-    let seats : (s : ℕ) → get nat_cmp c.seat.new.live.seats s ≡ (if r.socket.sid == s then Some r.socket else get nat_cmp hub.live.seats s) = rw (← c.recovery.view_is) ids.0 in
+    let seats : (s : ℕ) → seat_at c.seat.new.live.seats s ≡ (if r.socket.sid == s then Some r.socket else seat_at hub.live.seats s) = rw (← c.recovery.view_is) ids.0 in
     let pids : (p : ℕ) → sorted.contains nat_cmp c.seat.new.live.pids p ≡ ((r.socket.pid == p) || sorted.contains nat_cmp hub.live.pids p) = rw (← c.recovery.view_is) ids.1 in
     let rooms : c.seat.new.live.rooms ≡ room_maps.with_socket_in hub.live.rooms r.socket.sid r.rooms = rw (← c.recovery.view_is) ids.2 in
     rw (c.add.ensures.steps, c.add.ensures.last, c.reserve.ensures.same, c.add.ensures.counts)
-    (plus (came-back hub r k es c.args.now c.len-count.result (seated_in (get nat_cmp hub.clients) k.client k) (get nat_cmp c.seat.new.clients) (get nat_cmp c.seat.new.live.seats)
+    (plus (came-back hub r k es c.args.now c.len-count.result (seated_in (get nat_eq hub.clients) k.client k) (get nat_eq c.seat.new.clients) (seat_at c.seat.new.live.seats)
     (sorted.contains nat_cmp c.seat.new.live.pids) c.seat.new.live.rooms c.remove-session.new.self c.self.invariant b (number ∙ sym (length-map c.args.puts.items arc_value))
-    (λ q. refl) (told-first (get nat_cmp hub.clients) (get nat_cmp c.put_all.new.clients) (get nat_cmp c.seat.new.clients) k.client k es c.in_ok-put_all.ensures.ok c.in_default.ensures.client) seats pids rooms ids.3 c.remove-session.ensures.removed)
+    (λ q. refl) (told-first (get nat_eq hub.clients) (get nat_eq c.put_all.new.clients) (get nat_eq c.seat.new.clients) k.client k es c.in_ok-put_all.ensures.ok c.in_default.ensures.client) seats pids rooms ids.3 c.remove-session.ensures.removed)
     (none-ended _ _ _ _ c.self.invariant.4 refl))

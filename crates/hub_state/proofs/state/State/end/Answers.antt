@@ -1,7 +1,6 @@
-use Rattle.std.proofs.Common.{rules, ◌≡◌, ◌==◌, ◌∙◌, ℕ, subst, sym, refl, arith, if◌then◌else◌}
+use Rattle.std.proofs.Common.{rules, ◌≡◌, ◌==◌, ◌∙◌, ℕ, subst, sym, refl, arith, if◌then◌else◌, nat_eq}
 use Rattle.std.specs.Option.{option_map}
-use Rattle.std.specs.Ordering.{nat_cmp}
-use Rattle.std.specs.BTreeMap.{get}
+use Rattle.std.specs.HashMap.{get}
 use Rattle.journal.specs.Fields.{without_place}
 use Rattle.journal.specs.Membership.{socket_with, sid_of}
 use Rattle.journal.proofs.EndLemmas.{puts_ended, ended, can_end, one-known}
@@ -14,9 +13,9 @@ pub invariant_of-self-2 : goal.invariant_of-self-2
 invariant_of-self-2 c =
     let known : c.copied-known.result ≡ socket_with sid_of c.args.self.now.base c.args.self.now.journal c.args.sid = search rules in
     let found = rw (← c.self.view_is) at (sym known ∙ c.in_ok-socket.ensures.ok_part) in
-    let find = get nat_cmp c.self.inside.clients in
-    let dropped : (q : ℕ) → get nat_cmp c.drop_from.new.clients q ≡ (if c.in_ok-socket.socket.client == q then option_map (without_place c.in_ok-socket.socket.space) (find q) else find q)
-    = subst (λ p. (q : ℕ) → get nat_cmp c.drop_from.new.clients q ≡ (if c.in_ok-socket.socket.client == q then option_map (without_place p) (find q) else find q)) c.from.ensures c.drop_from.ensures in
+    let find = get nat_eq c.self.inside.clients in
+    let dropped : (q : ℕ) → get nat_eq c.drop_from.new.clients q ≡ (if c.in_ok-socket.socket.client == q then option_map (without_place c.in_ok-socket.socket.space) (find q) else find q)
+    = subst (λ p. (q : ℕ) → get nat_eq c.drop_from.new.clients q ≡ (if c.in_ok-socket.socket.client == q then option_map (without_place p) (find q) else find q)) c.from.ensures c.drop_from.ensures in
     let gone : c.in_ok-ended.ended.items ≡ sockets_ended_by c.self.inside.base c.self.inside.records.steps.steps (Ended c.args.sid c.args.by) =
     rw found (rw c.self.invariant.0.rooms_are at c.in_ok-ended.ensures.ok) in
     rw (c.add.ensures.steps, c.add.ensures.last, c.reserve.ensures.same, c.add.ensures.counts)

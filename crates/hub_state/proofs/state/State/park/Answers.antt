@@ -6,9 +6,8 @@ use Rattle.journal.specs.Sessions.{sessions}
 use Rattle.journal.specs.Membership.{is_open, sockets_of}
 use Rattle.journal.specs.declared.step.What.TheVariants.{Parked}
 use Rattle.std.proofs.lemmas.Bool.Decides.{nat_tests}
-use Rattle.std.proofs.Common.{rules, ◌≡◌, ◌∙◌, sym, ◌-◌, Some, arith, refl, true, false, length, nat_lt, None}
-use Rattle.std.specs.Ordering.{nat_cmp}
-use Rattle.std.specs.BTreeMap.{get}
+use Rattle.std.proofs.Common.{rules, ◌≡◌, ◌∙◌, sym, ◌-◌, Some, arith, refl, true, false, length, nat_lt, None, nat_eq}
+use Rattle.std.specs.HashMap.{get}
 use Rattle.journal.specs.Fields.{held_sockets}
 use Rattle.journal.proofs.ParkLemmas.{parked, can_park, can_part, puts_parked}
 use Rattle.hub_state.proofs.EndedLemmas.{hub-of, plus, some-ended, held-all}
@@ -27,7 +26,7 @@ invariant_of-self-2 c =
     let fine : refusal_now c.args.self.now (Parked c.args.client) ≡ None = rw (known, fits) s in
     let hub = c.self.inside in
     let listed = rw (← c.self.view_is) at c.in_ok-sockets.ensures.ok in
-    let its = listed ∙ sym (held-all hub.base hub.limits (get nat_cmp hub.clients) hub.records.steps.steps c.args.client c.self.invariant.0.clients c.self.invariant.2.of_open_clients) in
+    let its = listed ∙ sym (held-all hub.base hub.limits (get nat_eq hub.clients) hub.records.steps.steps c.args.client c.self.invariant.0.clients c.self.invariant.2.of_open_clients) in
     let gone = rw (c.deref-3.ensures.value, its) at c.forget_all.ensures in
     let saves = rw (c.deref-2.ensures.value, its) at c.in_default-save_all.ensures.saved in
     rw (c.add.ensures.steps, c.add.ensures.last, c.reserve.ensures.same, c.add.ensures.counts)
@@ -46,7 +45,7 @@ add-requires-clause-counted c =
     let within = waits-within c.args.self.now.base c.args.self.now.limits c.args.self.now.journal c.args.client c.facts.ensures.sound.clients_once known in
     let s = c.in_ok-may_count.ensures (Parked c.args.client) (puts_parked _ _ _ c.args.client) refl (omega (arith, within)) in
     let fine : refusal_now c.args.self.now (Parked c.args.client) ≡ None = rw (known, fits) s in
-    can_park c.self.inside.base c.self.inside.limits (get nat_cmp c.self.inside.clients) c.self.inside.records.steps.steps c.self.inside.records.counts c.self.invariant.3 c.self.invariant.2 c.self.invariant.0.clients
+    can_park c.self.inside.base c.self.inside.limits (get nat_eq c.self.inside.clients) c.self.inside.records.steps.steps c.self.inside.records.counts c.self.invariant.3 c.self.invariant.2 c.self.invariant.0.clients
     c.args.client c.forget_client-discarded.result (rw (← c.self.view_is) at (sym fine)) c.forget_client-discarded.ensures.discards
 
 pub forget_all-requires : goal.forget_all-requires
@@ -61,10 +60,10 @@ forget_all-requires c =
     let s = c.in_ok-may_count.ensures (Parked c.args.client) (puts_parked _ _ _ c.args.client) refl (omega (arith, within)) in
     let fine : refusal_now c.args.self.now (Parked c.args.client) ≡ None = rw (known, fits) s in
     let hub = c.self.inside in
-    let its : c.deref-3.result.now ≡ held_sockets (get nat_cmp hub.clients c.args.client) =
+    let its : c.deref-3.result.now ≡ held_sockets (get nat_eq hub.clients c.args.client) =
     c.deref-3.ensures.value ∙ (rw (← c.self.view_is) at c.in_ok-sockets.ensures.ok)
-    ∙ sym (held-all hub.base hub.limits (get nat_cmp hub.clients) hub.records.steps.steps c.args.client c.self.invariant.0.clients c.self.invariant.2.of_open_clients) in
-    let fit = can_part _ _ c.args.client _ (get nat_cmp c.self.inside.clients) _ _ _ _ _ _ _ (hub-of c.self.inside c.self.invariant) (rw (← c.self.view_is) at (sym fine)) in
+    ∙ sym (held-all hub.base hub.limits (get nat_eq hub.clients) hub.records.steps.steps c.args.client c.self.invariant.0.clients c.self.invariant.2.of_open_clients) in
+    let fit = can_part _ _ c.args.client _ (get nat_eq c.self.inside.clients) _ _ _ _ _ _ _ (hub-of c.self.inside c.self.invariant) (rw (← c.self.view_is) at (sym fine)) in
     rw its (fit.0, fit.1)
 
 pub save_all-requires : goal.save_all-requires
@@ -79,10 +78,10 @@ save_all-requires c =
     let s = c.in_ok-may_count.ensures (Parked c.args.client) (puts_parked _ _ _ c.args.client) refl (omega (arith, within)) in
     let fine : refusal_now c.args.self.now (Parked c.args.client) ≡ None = rw (known, fits) s in
     let hub = c.self.inside in
-    let its : c.deref-2.result.now ≡ held_sockets (get nat_cmp hub.clients c.args.client) =
+    let its : c.deref-2.result.now ≡ held_sockets (get nat_eq hub.clients c.args.client) =
     c.deref-2.ensures.value ∙ (rw (← c.self.view_is) at c.in_ok-sockets.ensures.ok)
-    ∙ sym (held-all hub.base hub.limits (get nat_cmp hub.clients) hub.records.steps.steps c.args.client c.self.invariant.0.clients c.self.invariant.2.of_open_clients) in
-    rw its (can_part _ _ c.args.client _ (get nat_cmp c.self.inside.clients) _ _ _ _ _ _ _ (hub-of c.self.inside c.self.invariant) (rw (← c.self.view_is) at (sym fine))).2
+    ∙ sym (held-all hub.base hub.limits (get nat_eq hub.clients) hub.records.steps.steps c.args.client c.self.invariant.0.clients c.self.invariant.2.of_open_clients) in
+    rw its (can_part _ _ c.args.client _ (get nat_eq c.self.inside.clients) _ _ _ _ _ _ _ (hub-of c.self.inside c.self.invariant) (rw (← c.self.view_is) at (sym fine))).2
 
 pub returns-in_err-may_count : goal.returns-in_err-may_count
 returns-in_err-may_count c =

@@ -1,7 +1,6 @@
+use Rattle.hub_state.specs.Seats.{seat_at}
 use Rattle.std.proofs.Common.{◌≡◌, ◌&&◌, not, ap, ℕ, Bool, true, false, List, if◌then◌else◌}
 use Rattle.std.specs.Prelude.{MatchBool}
-use Rattle.std.specs.Ordering.{nat_cmp}
-use Rattle.std.specs.BTreeMap.{get}
 use Rattle.room_maps.specs.Membership.{is_in}
 use Rattle.journal.specs.declared.socket.Socket.{Socket}
 use Rattle.journal.specs.declared.step.Step.{Step}
@@ -36,10 +35,10 @@ returns-clause-right c =
     let limits = c.self.inside.limits in
     let journal = c.self.inside.records.steps.steps in
     let inside = rw (← c.self.view_is, c.deref.ensures.value, c.deref-2.ensures.value) at c.in_ok-changed.ensures.ok in
-    let lists = rw (← c.keep_here.ensures) at (matching-lists base limits journal c.self.invariant.2 (get nat_cmp c.self.inside.live.seats) c.self.invariant.0.seats c.args.space c.args.rooms.items c.args.excepted.items c.in_ok-changed.changed.items inside) in
+    let lists = rw (← c.keep_here.ensures) at (matching-lists base limits journal c.self.invariant.2 (seat_at c.self.inside.live.seats) c.self.invariant.0.seats c.args.space c.args.rooms.items c.args.excepted.items c.in_ok-changed.changed.items inside) in
     let kept = rw c.self.invariant.0.rooms_are at c.keep_members.ensures in
     let right : ListsSockets sid_of (λ (k : Socket). matches base journal c.args.space c.args.rooms.items c.args.excepted.items k && moves base journal c.args.room c.args.leaves k.sid) (sockets base journal) c.keep_members.new.sids.items
-    = rw kept (sifted base limits journal c.self.invariant.2 (get nat_cmp c.self.inside.live.seats) c.self.invariant.0.seats c.args.space c.args.rooms.items c.args.excepted.items (moves base journal c.args.room c.args.leaves) c.keep_here.new.sids.items lists) in
+    = rw kept (sifted base limits journal c.self.invariant.2 (seat_at c.self.inside.live.seats) c.self.invariant.0.seats c.args.space c.args.rooms.items c.args.excepted.items (moves base journal c.args.room c.args.leaves) c.keep_here.new.sids.items lists) in
     rw (← c.self.view_is) (right_so base limits journal c.args.space c.args.rooms.items c.args.excepted.items c.args.room c.keep_members.new.sids.items c.args.leaves right)
 
 pub returns-clause-change : goal.returns-clause-change
@@ -48,8 +47,8 @@ returns-clause-change c =
     let limits = c.self.inside.limits in
     let journal = c.self.inside.records.steps.steps in
     let inside = rw (← c.self.view_is, c.deref.ensures.value, c.deref-2.ensures.value) at c.in_ok-changed.ensures.ok in
-    let lists = rw (← c.keep_here.ensures) at (matching-lists base limits journal c.self.invariant.2 (get nat_cmp c.self.inside.live.seats) c.self.invariant.0.seats c.args.space c.args.rooms.items c.args.excepted.items c.in_ok-changed.changed.items inside) in
+    let lists = rw (← c.keep_here.ensures) at (matching-lists base limits journal c.self.invariant.2 (seat_at c.self.inside.live.seats) c.self.invariant.0.seats c.args.space c.args.rooms.items c.args.excepted.items c.in_ok-changed.changed.items inside) in
     let kept = rw c.self.invariant.0.rooms_are at c.keep_members.ensures in
     let right : ListsSockets sid_of (λ (k : Socket). matches base journal c.args.space c.args.rooms.items c.args.excepted.items k && moves base journal c.args.room c.args.leaves k.sid) (sockets base journal) c.keep_members.new.sids.items
-    = rw kept (sifted base limits journal c.self.invariant.2 (get nat_cmp c.self.inside.live.seats) c.self.invariant.0.seats c.args.space c.args.rooms.items c.args.excepted.items (moves base journal c.args.room c.args.leaves) c.keep_here.new.sids.items lists) in
+    = rw kept (sifted base limits journal c.self.invariant.2 (seat_at c.self.inside.live.seats) c.self.invariant.0.seats c.args.space c.args.rooms.items c.args.excepted.items (moves base journal c.args.room c.args.leaves) c.keep_here.new.sids.items lists) in
     rw (← c.self.view_is) (same_as base limits journal c.args.space c.args.rooms.items c.args.excepted.items c.args.room c.keep_members.new.sids.items c.args.leaves right)

@@ -1,5 +1,4 @@
-use Rattle.std.specs.Ordering.{nat_cmp}
-use Rattle.std.specs.BTreeMap.{get}
+use Rattle.hub_state.specs.Seats.{seat_at}
 use Rattle.journal.specs.Membership.{matches, sid_of, sockets}
 use Rattle.journal.proofs.ManySocketsLemmas.{matching-lists, listed}
 use Rattle.hub_state.proofs.state.State.selected.Goals as goal
@@ -13,6 +12,6 @@ returns-clause-selected c =
     let named = c.args.rooms.now in
     let excepted = c.args.excepted.now in
     let inside = rw (← c.self.view_is) at c.in_ok-sids.ensures.ok in
-    let lists = rw (← c.keep_here.ensures) at (matching-lists base limits journal c.self.invariant.2 (get nat_cmp c.self.inside.live.seats) c.self.invariant.0.seats place named excepted c.in_ok-sids.sids.items inside) in
+    let lists = rw (← c.keep_here.ensures) at (matching-lists base limits journal c.self.invariant.2 (seat_at c.self.inside.live.seats) c.self.invariant.0.seats place named excepted c.in_ok-sids.sids.items inside) in
     rw (← c.in_ok-place.ensures.place, ← c.self.view_is)
     (listed sid_of (matches base journal place named excepted) (sockets base journal) c.keep_here.new.sids.items lists)

@@ -1,6 +1,7 @@
-use Rattle.std.proofs.Common.{rules, ◌≡◌, ◌∙◌, ◌∷◌, length, max, refl, sym, ap, None, inr}
+use Rattle.hub_state.specs.Seats.{seat_at}
+use Rattle.std.proofs.Common.{rules, ◌≡◌, ◌∙◌, ◌∷◌, length, max, refl, sym, ap, None, inr, nat_eq}
 use Rattle.std.specs.Ordering.{nat_cmp}
-use Rattle.std.specs.BTreeMap.{get}
+use Rattle.std.specs.HashMap.{get}
 use Rattle.std.specs.BTreeSet as sorted
 use Rattle.std.specs.Arc.{arc_value}
 use Rattle.journal.specs.Plain.{PlainBroadcast}
@@ -19,7 +20,7 @@ use Rattle.hub_state.proofs.state.State.send.Goals as goal
 pub invariant_of-self-then-passes : goal.invariant_of-self-then-passes
 invariant_of-self-then-passes c =
     let back : SameClients c.self.inside.clients c.take_all_back.new.clients =
-    taken-back (get nat_cmp c.self.inside.clients) (get nat_cmp c.put_each.new.clients) (get nat_cmp c.put_each.new.clients) (get nat_cmp c.take_all_back.new.clients)
+    taken-back (get nat_eq c.self.inside.clients) (get nat_eq c.put_each.new.clients) (get nat_eq c.put_each.new.clients) (get nat_eq c.take_all_back.new.clients)
     _ c.deref.result.now c.in_ok-reached.ensures.put (λ q. refl) (c.deref.ensures.value ∙ c.in_ok-reached.ensures.told) c.take_all_back.ensures in
     search rules
 
@@ -50,7 +51,7 @@ invariant_of-self-2 c =
     let dropped : c.len-2.result ≡ length c.in_ok-reached.dropped.items = search rules in
     rw (c.add.ensures.steps, c.add.ensures.last, c.reserve.ensures.same, c.add.ensures.counts, placed, dropped, same-lost h c.self.invariant b ks _ _ got.told got.missing)
     (plus (casted h.base h.limits h.records.steps.steps (sent_to (history_of h) ks b) c.self.invariant.1 c.self.invariant.2 (sent-formed h c.self.invariant b ks formed) given
-    (messages_to (history_of h) ks b) tells c.args.now h.records.last (get nat_cmp h.clients) (get nat_cmp c.put_each.new.clients) (get nat_cmp h.live.seats)
+    (messages_to (history_of h) ks b) tells c.args.now h.records.last (get nat_eq h.clients) (get nat_eq c.put_each.new.clients) (seat_at h.live.seats)
     (sorted.contains nat_cmp h.live.pids) h.live.rooms h.saved h.log c.push_logged.new.log h.records.counts
     (hub-of h c.self.invariant) (sym spent ∙ c.if-passes.false) logged (same-put h c.self.invariant b ks _ got.put))
     (none-ended _ _ _ _ c.self.invariant.4 refl))

@@ -1,7 +1,6 @@
+use Rattle.hub_state.specs.Seats.{seat_at}
 use Rattle.std.proofs.Common.{rules, ◌≡◌, ◌∙◌, ◌∷◌, max, ap, subst, sym, refl, true, None, Some, Err, arith}
 use Rattle.std.specs.Option.{option_map}
-use Rattle.std.specs.Ordering.{nat_cmp}
-use Rattle.std.specs.BTreeMap.{get}
 use Rattle.room_maps.specs.Membership.{is_in, without_members, leave_all_refusal}
 use Rattle.journal.specs.declared.error.HubError.TheVariants.{RoomRefused}
 use Rattle.journal.specs.declared.step.What.TheVariants.{AllLeft}
@@ -112,7 +111,7 @@ returns-clause-changed c =
     let right : RightLeaving base journal m = rw (← c.self.view_is) at c.in_ok-change.ensures.right in
     let changed = rw (c.deref-2.ensures.value, c.self.invariant.0.rooms_are) at c.in-Ok.ensures.changed in
     let all : c.in-Ok.left.items ≡ m.changed =
-    all-changed base limits journal c.self.invariant.2 (get nat_cmp c.self.inside.live.seats) c.self.invariant.0.seats
+    all-changed base limits journal c.self.invariant.2 (seat_at c.self.inside.live.seats) c.self.invariant.0.seats
     (may_exit base journal m.space m.rooms m.excepted m.room) (λ x. is_in (rooms base journal) x m.room) (λ k e. (both-true _ _ e).1)
     m.changed c.in-Ok.left.items right.changed (rw (ap (λ (m : PlainRoomChange). m.room) is) (rw (← c.change.view_is) changed)) in
     rw (← c.self.view_is) (all ∙ ap (λ (m : PlainRoomChange). m.changed) is)

@@ -1,6 +1,5 @@
-use Rattle.std.proofs.Common.{rules, arith, ◌≡◌, ◌∙◌, ◌<◌, ◌++◌, [], ◌∷◌, length, get_or, take, false, true}
-use Rattle.std.specs.Ordering.{nat_cmp}
-use Rattle.std.specs.BTreeMap.{get}
+use Rattle.std.proofs.Common.{rules, arith, ◌≡◌, ◌∙◌, ◌<◌, ◌++◌, [], ◌∷◌, length, get_or, take, false, true, nat_eq}
+use Rattle.std.specs.HashMap.{get}
 use Rattle.std.specs.Arc.{arc_value}
 use Rattle.journal.specs.Casting.{is_full_in}
 use Rattle.journal.specs.Fields.{with_entry}
@@ -15,14 +14,14 @@ returns-in_default-clause-err c =
       | in_default-via-in-Ok-false+else-is_ok w ↦ search rules
       | in_default-via-in_default w ↦ search rules
     ] in
-    taken-back (get nat_cmp c.args.clients.now) (get nat_cmp c.loop-socket.clients) (get nat_cmp c.put_if_it_fits.new.clients) (get nat_cmp c.take_all_back.new.clients)
+    taken-back (get nat_eq c.args.clients.now) (get nat_eq c.loop-socket.clients) (get nat_eq c.put_if_it_fits.new.clients) (get nat_eq c.take_all_back.new.clients)
     _ c.deref.result.now c.loop-socket.invariant.put same (c.deref.ensures.value ∙ c.loop-socket.invariant.told) c.take_all_back.ensures
 
 pub loop-socket-preserved : goal.loop-socket-preserved
 loop-socket-preserved c =
-    let find = get nat_cmp c.args.clients.now in
-    let mid = get nat_cmp c.loop-socket.clients in
-    let new = get nat_cmp c.put_if_it_fits.new.clients in
+    let find = get nat_eq c.args.clients.now in
+    let mid = get nat_eq c.loop-socket.clients in
+    let new = get nat_eq c.put_if_it_fits.new.clients in
     let e = arc_value c.args.entry.now in
     let ks = c.args.sockets.now in
     let k = c.socket-item.result in

@@ -1,6 +1,5 @@
-use Rattle.std.proofs.Common.{arith, length-append}
-use Rattle.std.specs.Ordering.{nat_cmp}
-use Rattle.std.specs.BTreeMap.{get}
+use Rattle.std.proofs.Common.{arith, length-append, nat_eq}
+use Rattle.std.specs.HashMap.{get}
 use Rattle.journal.proofs.CastLemmas.{put-more, has-place, split-more}
 use Rattle.hub_state.proofs.PutsLemmas.{all-back}
 use Rattle.hub_state.proofs.state.cast.put_messages.Goals as goal
@@ -20,6 +19,6 @@ put_entry-requires c =
 
 pub returns-in-Err-clause-err : goal.returns-in-Err-clause-err
 returns-in-Err-clause-err c =
-    all-back (get nat_cmp c.args.clients.now) (get nat_cmp c.loop-message.clients) (get nat_cmp c.put_entry.new.clients) (get nat_cmp c.take_all_back.new.clients)
+    all-back (get nat_eq c.args.clients.now) (get nat_eq c.loop-message.clients) (get nat_eq c.put_entry.new.clients) (get nat_eq c.take_all_back.new.clients)
     c.loop-message.yielded c.loop-message.message-iterator.rest.items c.args.messages.items c.args.receivers.now c.loop-message.put
     c.loop-message.invariant.clients c.in-Err.ensures.err c.loop-message.invariant.split c.loop-message.invariant.number c.requires.receivers c.take_all_back.ensures
