@@ -106,7 +106,7 @@ impl<'a, R: Clock + Drop> Connections<'a, R> {
         }
     }
 
-    /// How many bytes of it are unsent.
+    /// How many bytes of the connection with this key are unsent.
     pub fn unsent(&self, key: usize) -> usize
         ensures { result ≡ (all.seen_at key self.now).unsent }
     {
