@@ -48,9 +48,10 @@ use Rattle.journal.proofs.SealListsLemmas.{all-to, of_client, by_clients, AreOf,
 -- what is so of all that a list has is so of each of its elements
 each-among : (test : ℕ → Bool) (cs : List ℕ) → ((c : ℕ) → list_any (eq_by_cmp nat_cmp c) cs ≡ true → test c ≡ true) → AllByRecursion (λ c. test c ≡ true) cs
 each-among test [] so = tt
-each-among test (c ∷ cs) so =
-    (so c (let itself : eq_by_cmp nat_cmp c c ≡ true = ap is_eq (tied_itself nat_cmp_total c) in rw itself refl),
-    each-among test cs (λ d among. so d (ap (λ b. eq_by_cmp nat_cmp d c || b) among ∙ either (eq_by_cmp nat_cmp d c))))
+each-among test (c ∷ cs) so = (
+  so c (let itself : eq_by_cmp nat_cmp c c ≡ true = ap is_eq (tied_itself nat_cmp_total c) in rw itself refl),
+  each-among test cs (λ d among. so d (ap (λ b. eq_by_cmp nat_cmp d c || b) among ∙ either (eq_by_cmp nat_cmp d c))),
+)
   where
     either : (b : Bool) → (b || true) ≡ true
     either true = refl

@@ -21,6 +21,6 @@ returns-clause-ok g c =
     let items : c.in-Ok.clients.items ≡ keys m = search rules in
     let once : IsDistinct nat_eq c.in-Ok.clients.items = subst (IsDistinct nat_eq) (sym items) c.keys.ensures.unique in
     let found : (x : ℕ) → list_any (λ y. y == x) (keys m) ≡ is_open h.base h.journal x =
-        λ x. (λ i. list_any (λ y. nat_eq_equiv.symm y x i) (keys m)) ∙ sym (is_some-lookup (nat_eq x) m.entries) ∙ c.self.invariant.0 x in
+    λ x. (λ i. list_any (λ y. nat_eq_equiv.symm y x i) (keys m)) ∙ sym (is_some-lookup (nat_eq x) m.entries) ∙ c.self.invariant.0 x in
     let listed = sorted-once c.in-Ok.clients.items c.sort_unstable.new.self.items once c.sort_unstable.ensures.permutation c.sort_unstable.ensures.sorted in
     rw (← c.self.view_is) (retold _ (is_open h.base h.journal) _ (λ x. subst (λ xs. list_any (λ y. y == x) xs ≡ is_open h.base h.journal x) (sym items) (found x)) listed)
