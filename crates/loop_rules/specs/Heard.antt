@@ -33,10 +33,10 @@ has_taken_all rests (Ok (outcome.Done done)) = rests && is_none done.closed
 has_taken_all rests (Ok (outcome.Frames frames)) = not frames.more
 has_taken_all rests _ = false
 
--- a client takes after the last of the messages that were read, and after each sixteenth of a stint
-abbrev pub reads_on : (unbrought left : ℕ) → Answer → Bool
-reads_on unbrought left (Ok (outcome.Done done)) = is_none done.closed && nat_lt 0 unbrought && not (nat_eq (left % 16) 1)
-reads_on unbrought left _ = false
+-- a message is followed by those that were read behind it, but for each sixteenth of a stint and the last one
+abbrev pub reads_ahead : (unbrought left : ℕ) → Event → Bool
+reads_ahead unbrought left (event.Frame client frame) = nat_lt 0 unbrought && nat_lt 0 left && not (nat_eq (left % 16) 1)
+reads_ahead unbrought left _ = false
 
 abbrev pub found_beside : (is_dry : Bool) → Answer → Found
 found_beside is_dry (Ok (outcome.Ticked ping done)) = cond (not ping && is_none done.closed) found.Quiet found.More

@@ -32,15 +32,12 @@ pub fn has_taken_all(got: &Answered, rests: bool) -> bool
     }
 }
 
-/// Whether a WebSocket that has brought a message brings what came behind it before its client
-/// takes: more was read, and its stint has so many events left. After each sixteenth it takes.
-pub fn reads_on(got: &Answered, unbrought: usize, left: u32) -> bool
-    ensures { result ≡ heard.reads_on unbrought left got.now }
+/// Whether a WebSocket brings what came behind an event before that is answered: it is a message,
+/// more was read, and its stint has so many events left. After each sixteenth its client takes.
+pub fn reads_ahead(event: &Event, unbrought: usize, left: u32) -> bool
+    ensures { result ≡ heard.reads_ahead unbrought left event.now }
 {
-    match got {
-        Ok(Outcome::Done(done)) => done.closed.is_none() && unbrought > 0 && left % 16 != 1,
-        _ => false,
-    }
+    matches!(event, Event::Frame { .. }) && unbrought > 0 && left > 0 && left % 16 != 1
 }
 
 /// What an answer says of a look: where its peer has nothing to bring until something comes, all

@@ -22,7 +22,8 @@ pub use deadlines::Period;
 pub use dealing::{Addresses, Dealing, Refused, time_to_wait};
 pub use delays::Delays;
 pub use heard::{
-    Concern, concern_of, done_of, found_by, found_passed, has_taken_all, left_unbrought, reads_on,
+    Concern, concern_of, done_of, found_by, found_passed, has_taken_all, left_unbrought,
+    reads_ahead,
 };
 pub use hold::Hold;
 pub use link::{Course, Do, Link, Seen, Serving, client_of, events_in};

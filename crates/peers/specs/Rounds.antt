@@ -122,6 +122,11 @@ abbrev pub without_read : SocketStage → SocketStage
 without_read (stage.Reads c phase.Speaks idle) = stage.Takes c
 without_read other = other
 
+-- what came behind a message is read before that is answered
+abbrev pub ahead : SocketStage → SocketStage
+ahead (stage.Framed c) = stage.Reads c phase.Speaks false
+ahead other = other
+
 -- what is left of a round of a client that speaks is passed over, and the next one is to begin
 abbrev pub without_rest : SocketStage → SocketStage
 without_rest (stage.Takes c) = stage.Reads c phase.Speaks false

@@ -4,7 +4,8 @@ ghost use Rattle.std.specs.Prelude.{◌≡◌};
 ghost use Rattle.events.specs.Frames.{frames_of};
 ghost use Rattle.peers.specs.FrameSocket.{Sends, SendsAll};
 ghost use Rattle.peers.specs.Heard.{to_send};
-ghost use Rattle.peers.specs.Rounds.{asks_due, first_stage, has_read_nothing, is_idle, without_read, without_rest};
+ghost use Rattle.peers.specs.Rounds.{ahead, asks_due, first_stage, has_read_nothing};
+ghost use Rattle.peers.specs.Rounds.{is_idle, without_read, without_rest};
 
 use crate::frame_socket::{FrameSocket, Incoming};
 use crate::moments::Moments;
@@ -114,6 +115,15 @@ impl<S, M> SocketPeer<S, M> {
             at: Phase::Speaks,
             idle,
         };
+    }
+
+    /// What came behind its message is brought before that is answered, of which it isn't told.
+    pub fn read_ahead(&mut self)
+        ensures { self.new ≡ record self.old { stage = ahead self.old.stage } }
+    {
+        if let SocketStage::Framed { client } = self.stage {
+            self.stage = SocketStage::begin(client, Phase::Speaks);
+        }
     }
 
     /// The stream, to look at.

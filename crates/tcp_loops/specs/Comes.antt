@@ -1,5 +1,5 @@
 -- What comes of what a connection does.
-use Rattle.std.specs.Prelude.{◌≡◌, ◌++◌, ℕ, Bool, ◌||◌, List, Option, None, Result, Ok, Err, cond}
+use Rattle.std.specs.Prelude.{◌≡◌, ◌++◌, ℕ, Bool, List, Option, None, Result, Ok, Err, cond}
 use Rattle.std.specs.Box.{box_value}
 use Rattle.std.specs.declared.boxed.Box.{Box}
 use Rattle.std.specs.declared.alloc.Global.{Global}
@@ -12,7 +12,7 @@ use Rattle.http_edge.specs.Reading.{IsRequestIn}
 use Rattle.http_edge.specs.SoFar.{fed}
 use Rattle.http_edge.specs.declared.error.EdgeError.{EdgeError}
 use Rattle.http_edge.specs.declared.replay.Replay.{Replay}
-use Rattle.loop_rules.specs.Heard.{found_by, has_taken_all, reads_on}
+use Rattle.loop_rules.specs.Heard.{found_by, has_taken_all}
 use Rattle.loop_rules.specs.Link.{is_dry}
 use Rattle.loop_rules.specs.declared.link.Do.{Do}
 use Rattle.loop_rules.specs.declared.link.Do.TheVariants as what
@@ -85,10 +85,6 @@ module _ {R : Type 0} where
   Hears got (service.Speaking p) result (service.Speaking p') =
       spoken.Hears (λ (r : Replay (Box (Buffered TcpStream) Global)). held (box_value r.stream)) (box_value p) got result (box_value p')
   Hears got old result new = (result ≡ Ok tt) × (new ≡ old)
-
--- what follows a message is passed over where all was taken, or where more was read
-abbrev pub passes_rest : (rests : Bool) → Link → (before : Seen) → Answer → Bool
-passes_rest rests l before got = has_taken_all rests got || reads_on before.unbrought l.left got
 
 module _ {R : Type 0} where
   -- its peer has come as far as the table says, and then the rest of its round was passed over, or not

@@ -1,24 +1,29 @@
 -- The connections of a loop: what is done with one leaves the others as they were.
-use Rattle.std.specs.Prelude.{◌≡◌, ◌≢◌, ◌⊎◌, ℕ, Bool, true, false, Option, None, Some, is_some, List}
+use Rattle.std.specs.Prelude.{◌≡◌, ◌≢◌, ◌⊎◌, ◌&&◌, if◌then◌else◌, ℕ, Bool, true, false, Option, None, Some, is_some, List}
 use Rattle.std.specs.Box.{box_value}
 use Rattle.std.specs.declared.boxed.Box.{Box}
 use Rattle.std.specs.declared.alloc.Global.{Global}
+use Rattle.events.specs.declared.event.Event.{Event}
 use Rattle.http_edge.specs.declared.routes.Target.{Target}
 use Rattle.loop_rules.specs.Course as courses
 use Rattle.loop_rules.specs.Lateness.{due_at, kept_link}
 use Rattle.loop_rules.specs.Link as one
 use Rattle.loop_rules.specs.Link.{seen_gone}
-use Rattle.loop_rules.specs.Links.{link_at, put_at}
+use Rattle.loop_rules.specs.Heard.{reads_ahead}
+use Rattle.loop_rules.specs.Links.{after_answer, link_at, put_at}
 use Rattle.loop_rules.specs.Sending.{after_failure, after_sent, failed_at, sent_at}
 use Rattle.loop_rules.specs.declared.link.Do.{Do}
 use Rattle.loop_rules.specs.declared.link.Do.TheVariants as what
 use Rattle.loop_rules.specs.declared.link.Link.{Link}
 use Rattle.loop_rules.specs.declared.link.Seen.{Seen}
 use Rattle.loop_rules.specs.declared.links.Links.{Links}
+use Rattle.loop_rules.specs.declared.looks.Found.TheVariants as found
 use Rattle.slab.specs.Slab.{get, slab_len}
 use Rattle.tcp_loops.specs.Services.{seen_of}
 use Rattle.tcp_loops.specs.declared.connections.Connection.{Connection}
 use Rattle.tcp_loops.specs.declared.connections.Connections.{Connections}
+use Rattle.tcp_loops.specs.declared.service.Service.{Service}
+use Rattle.tcp_loops.specs.declared.service.Service.TheVariants as service
 
 module _ {R : Type 0} where
   abbrev pub count_of : Connections R → ℕ
@@ -40,6 +45,20 @@ module _ {R : Type 0} where
 
   abbrev pub link_of : (key : ℕ) → Connections R → Link
   link_of key c = link_at c.links.links.items key
+
+  abbrev pub service_so : Option (Box (Connection R) Global) → Service R
+  service_so None = service.Gone
+  service_so (Some b) = (box_value b).service
+
+  -- who serves the connection with a key
+  abbrev pub service_at : (key : ℕ) → Connections R → Service R
+  service_at key c = service_so (connection_at key c)
+
+  -- what follows where a connection goes on before its event is answered, if it does
+  abbrev pub what_ahead : (key : ℕ) → Event → Connections R → Option Do
+  what_ahead key event c =
+      if is_there key c && reads_ahead (seen_at key c).unbrought (link_of key c).left event
+      then Some (after_answer key found.More (one.is_full (seen_at key c)) c.links) else None
 
   -- each other connection stays as it was, and so does what it is about
   pub record OnlyAt (key : ℕ) (old new : Connections R) : Type 0 where

@@ -88,6 +88,11 @@ module _ {R : Type 0} where
       service.Speaking (record p { value = record (box_value p) { stage = rounds.without_rest (box_value p).stage } })
   skipped other = other
 
+  -- a WebSocket goes on before its message is answered
+  abbrev pub ahead : Service R → Service R
+  ahead (service.Speaking p) = service.Speaking (record p { value = record (box_value p) { stage = rounds.ahead (box_value p).stage } })
+  ahead other = other
+
   -- a GET that waits asks no more
   abbrev pub given_up : Service R → Service R
   given_up (service.Polling p) =

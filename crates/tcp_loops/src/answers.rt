@@ -116,6 +116,7 @@ impl<R: Wait + Clock + Copy + Drop, L: Log> Driver<'_, R, L> {
     {
         let (key, comes_over) = match of {
             Origin::Loss { client } => return self.hear_loss(client, got),
+            Origin::Ahead { key } => return self.hear_ahead(key, got),
             Origin::Stint { key, comes_over } => (key, comes_over),
         };
         let (base, now) = (self.base, self.round.now);
@@ -138,6 +139,19 @@ impl<R: Wait + Clock + Copy + Drop, L: Log> Driver<'_, R, L> {
         let is_done = matches!(got, Ok(Outcome::Done(_)));
         self.round.tells |= is_done && seen.has_brought_all();
         self.obey(key, what);
+    }
+
+    /// A message was answered whose connection went on before that.
+    fn hear_ahead(&mut self, key: usize, got: &Answered)
+        ensures round { self.new.round ≡ rounds.after_answer got.now 0 self.old.round }
+    {
+        let base = self.base;
+        self.round = self.round.note_answer(got, 0);
+        if let Err(error) = got {
+            let reason = Reason::of_core(error.fault);
+            base.shared.counts.lock(base.rt).note_refused(reason);
+        }
+        self.note(key, false, got);
     }
 
     /// The answers were heard. Others may begin with what was put for them, while a connection goes
@@ -165,12 +179,14 @@ impl<R: Wait + Clock + Copy + Drop, L: Log> Driver<'_, R, L> {
         }
     }
 
-    /// Tells whom the answer to an event of a connection concerns.
+    /// Tells whom the answer to an event of a connection concerns: those for whom it put something
+    /// even where the connection is over by now.
     fn note(&mut self, key: usize, comes_over: bool, got: &Answered)
         ensures round { self.new.round ≡ self.old.round }
     {
         let (base, now) = (self.base, self.round.now);
         let links = &mut self.connections.links;
+        links.wake_for(self.number, base.rules.loops, got, &mut self.notes);
         let Some(client) = links.client(key) else {
             return;
         };
@@ -179,7 +195,6 @@ impl<R: Wait + Clock + Copy + Drop, L: Log> Driver<'_, R, L> {
         // Where it takes is asked only of what was worked on.
         let is_taker = matches!(got, Ok(Outcome::Done(_))) && links.is_taker(key);
         let concern = concern_of(got, comes_over, is_taker);
-        links.wake_for(self.number, base.rules.loops, got, &mut self.notes);
         links.heed(key, client, concern, now);
         self.notes.everyone |= concern.hides_whom();
         if let Some(fate) = Fate::of(got, concern, is_socket) {

@@ -1,20 +1,23 @@
 //! The connections of a loop: their streams, and who serves them.
 
-ghost use Rattle.std.specs.Prelude.{◌≡◌, ◌<◌, ℕ, None, true, false, length, IfSome, IfNone};
+ghost use Rattle.std.specs.Prelude.{◌≡◌, ◌<◌, ℕ, None, true, false, length, IfSome, IfNone, cond, is_some};
 ghost use Rattle.mio.specs.Event.{event_token, is_readable, is_writable};
 ghost use Rattle.loop_rules.specs.Link as one;
 ghost use Rattle.loop_rules.specs.Links.{IsReleased};
 ghost use Rattle.loop_rules.specs.Rotas.{look_of, will_look};
 ghost use Rattle.tcp_loops.specs.Comes.{ComesOf};
 ghost use Rattle.tcp_loops.specs.Connections as all;
-ghost use Rattle.tcp_loops.specs.Connections.{OnlyAt, connection_at, is_there, link_of};
+ghost use Rattle.tcp_loops.specs.Connections.{OnlyAt, connection_at, is_there, link_of, service_at};
+ghost use Rattle.tcp_loops.specs.Services as services;
 
 use crate::base::Watch;
 use crate::service::Service;
 use crate::stream::{Came, Change};
-use events::Answered;
+use events::{Answered, Event};
 use http_edge::{Gathered, Request, Target};
-use loop_rules::{Do, Links, Pause, Seen, Serving, client_of, events_in, found_passed};
+use loop_rules::{
+    Do, Found, Links, Pause, Seen, Serving, client_of, events_in, found_passed, reads_ahead,
+};
 use mio::{Interest, Registry, Token, event as readiness};
 use peers::{Response, message_length};
 use slab::Slab;
@@ -239,6 +242,24 @@ impl<'a, R: Clock + Drop> Connections<'a, R> {
             Do::Drain => Came::Nothing(connection.service.drain().map_or(Do::End, Do::Rest)),
             other => Came::Nothing(other),
         }
+    }
+
+    /// A connection has brought an event. Where that is a message behind which more was read, it goes
+    /// on before the answer, which it isn't told. Answers what follows then.
+    pub fn read_ahead(&mut self, key: usize, event: &Event) -> Option<Do>
+        ensures what { result ≡ all.what_ahead key event.now self.old }
+        ensures same { result ≡ None → self.new ≡ self.old }
+        ensures goes { service_at key self.new
+            ≡ cond (is_some result) (services.ahead (service_at key self.old)) (service_at key self.old) }
+        ensures others { OnlyAt key self.old self.new }
+        ensures takers { self.new.links.roster.takers ≡ self.old.links.roster.takers }
+    {
+        let (seen, left) = (self.seen(key), self.links.link(key).left);
+        if !reads_ahead(event, seen.unbrought, left) {
+            return None;
+        }
+        self.slots.get_mut(key)?.service.read_ahead();
+        Some(self.links.follow(key, Found::More, seen.is_full()))
     }
 
     /// Hears the answer to the event of a connection, after which nothing waits for its client, as

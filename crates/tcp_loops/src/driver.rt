@@ -37,6 +37,8 @@ const STREAMS: usize = 256;
 pub(crate) enum Origin {
     /// A connection in its stint. By the event its client may come over to it.
     Stint { key: usize, comes_over: bool },
+    /// A connection that goes on before the answer to this message.
+    Ahead { key: usize },
     /// A client that is given up, of which the core is told that it is lost.
     Loss { client: u128 },
 }
@@ -356,6 +358,10 @@ impl<'a, R: Wait + Clock + Copy + Drop, L: Log> Driver<'a, R, L> {
                 }
                 Came::Refused(fault) => self.refuse(key, fault),
                 Came::Event(event, moment) => {
+                    if let Some(what) = self.connections.read_ahead(key, &event) {
+                        self.obey(key, what);
+                        return Some((Origin::Ahead { key }, event, moment));
+                    }
                     let comes_over = matches!(event, Event::Upgraded { .. });
                     return Some((Origin::Stint { key, comes_over }, event, moment));
                 }

@@ -106,9 +106,9 @@ impl<'a, R: Wait + Clock + Copy + Drop, L: Log> EventLoop<'a, R, L> {
         }
     }
 
-    /// Gathers what connections bring, one event of each, for the next hold of the lock. Those whose
-    /// stints go on come first, and while they bring packets others begin once a moment: so one
-    /// take has what many messages put for a client.
+    /// Gathers what connections bring, in turn, for the next hold of the lock. Those whose stints go
+    /// on come first, and while they bring packets others begin once a moment: so one take has what
+    /// many messages put for a client.
     fn gather(&mut self)
         ensures few { holding.saying_count self.new.hold.brought
             ≤ holding.saying_count self.old.hold.brought

@@ -1,6 +1,7 @@
 //! Who serves a connection.
 
 ghost use Rattle.std.specs.Prelude.{◌≡◌, IfSome, Some, cond, option_map, string_bytes};
+ghost use Rattle.loop_rules.specs.Heard.{has_taken_all};
 ghost use Rattle.loop_rules.specs.Link.{is_full};
 ghost use Rattle.peers.specs.Responses.{plain_response};
 ghost use Rattle.tcp_streams.specs.Outputs.{waiting};
@@ -14,7 +15,7 @@ use crate::stream::{
 };
 use events::{Answered, Event, Peer, PeerFault};
 use http_edge::{Gathered, OnStream, Replay, Request, Target, write_response};
-use loop_rules::{Do, Found, Link, Pause, Seen, found_by, has_taken_all, reads_on};
+use loop_rules::{Do, Found, Link, Pause, Seen, found_by, has_taken_all};
 use page::File;
 use peers::{
     PollPeer, PollRequest, Response, SocketPeer, SocketRequest, accept_socket, response_to_target,
@@ -144,17 +145,24 @@ impl<'a, R: Clock + Drop> Service<'a, R> {
             (services.seen_of self.old) (services.seen_of self.new) got.now) }
         ensures full { IfSome result (λ r. r.1 ≡ is_full (services.seen_of self.new)) }
         ensures rest { IfSome result (λ _. comes.HearsOn
-            (comes.passes_rest rests link (services.seen_of self.old) got.now)
-            got.now self.old self.new) }
+            (has_taken_all rests got.now) got.now self.old self.new) }
     {
         let before = self.seen();
         self.answer(got).ok()?;
         let has_taken_all = has_taken_all(got, rests);
-        let reads_on = reads_on(got, before.unbrought, link.left);
-        self.skip_rest_if(has_taken_all | reads_on);
+        self.skip_rest_if(has_taken_all);
         let (is_dry, seen) = (link.is_dry(before), self.seen());
         let found = found_by(got, seen.idle, has_taken_all, is_dry);
         Some((found, seen.is_full()))
+    }
+
+    /// The peer of a WebSocket goes on before its message is answered.
+    pub(crate) fn read_ahead(&mut self)
+        ensures { self.new ≡ services.ahead self.old }
+    {
+        if let Service::Speaking(peer) = self {
+            peer.read_ahead();
+        }
     }
 
     /// The rest of the round of a WebSocket is passed over.

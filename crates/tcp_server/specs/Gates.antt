@@ -32,10 +32,10 @@ looked_at has_backends ev got = if has_backends || is_served ev got then client_
 abbrev pub rests : History → (client : ℕ) → Event → Answer → Bool
 rests h c ev got = is_served ev got && option_map_or (λ n. n == 0) (when_open h c (length (waits h c))) false
 
--- it is shown where its client rests, or brought messages
-abbrev pub sign_of : (client : ℕ) → (rests : Bool) → (digits : Option ℕ) → Option Sign
-sign_of c rests digits =
-    if rests || is_some digits then Some (record { client = c; rests = rests; digits = digits }) else None
+-- a message that was worked on is shown, and what messages backends hear of
+abbrev pub sign_of : (client : ℕ) → (served rests : Bool) → (digits : Option ℕ) → Option Sign
+sign_of c served rests digits =
+    if served || is_some digits then Some (record { client = c; rests = rests; digits = digits }) else None
 
 -- it has what is known of the backends, and what the history says
 pub record IsSightOf (backends : Backends) (h : History) (sight : Sight) : Type 0 where

@@ -44,8 +44,8 @@ fn looked_at(has_backends: bool, event: &Event, got: &Answered) -> Option<u128>
     }
 }
 
-/// What is shown of a client after its event, which brought messages of these digits, or none, if
-/// something is: that, and whether nothing waits for the client of a message that was served.
+/// What is shown of a client after its event, which brought messages of these digits, or none: that,
+/// and of a message that was served whether nothing waits for its client. Else nothing is shown.
 fn sign_of(
     state: &State,
     client: u128,
@@ -53,11 +53,12 @@ fn sign_of(
     got: &Answered,
     digits: Option<u16>,
 ) -> Option<Sign>
-    ensures { result ≡ gates.sign_of client (gates.rests state.now client event.now got.now)
-        digits }
+    ensures { result ≡ gates.sign_of client (gates.is_served event.now got.now)
+        (gates.rests state.now client event.now got.now) digits }
 {
-    let rests = is_served(event, got) && state.waiting(client) == Some(0);
-    (rests || digits.is_some()).then(|| Sign {
+    let is_served = is_served(event, got);
+    let rests = is_served && state.waiting(client) == Some(0);
+    (is_served || digits.is_some()).then(|| Sign {
         client,
         rests,
         digits,
@@ -126,7 +127,9 @@ impl<R: Wait, L> Gate<'_, R, L> {
         }
         if let Some(sign) = sign_of(state, client, event, got, digits) {
             // Where there is no memory for it, it is as if nothing had been shown.
-            let _ = shown.signs.push(sign);
+            if shown.signs.push(sign).is_err() {
+                shown.signs.clear();
+            }
         }
     }
 }

@@ -266,7 +266,7 @@ impl Backends {
 #[derive(Clone, Copy)]
 pub struct Sign {
     pub client: u128,
-    /// It was a message, after which nothing waited for its client.
+    /// It was a message that was worked on, and then nothing waited for its client.
     pub rests: bool,
     /// The digits with which the ids of the client's sockets begin, a bit each, where it brought
     /// messages that backends hear of; none where it is a backend.
@@ -295,13 +295,29 @@ impl Shown {
         }
     }
 
-    /// Whether nothing waited for a client after its message.
+    /// Whether a client brought messages, and nothing waited for it after any of them.
     pub fn rests(&self, client: u128) -> bool
         ensures { result ≡ shown.rests client self.now.signs.items }
+    {
+        self.has_rested(client) && !self.has_waited(client)
+    }
+
+    /// Whether nothing waited for a client after some message.
+    fn has_rested(&self, client: u128) -> bool
+        ensures { result ≡ shown.has_rested client self.now.signs.items }
     {
         self.signs
             .iter()
             .any(|sign| sign.client == client && sign.rests)
+    }
+
+    /// Whether something waited for a client after some message.
+    fn has_waited(&self, client: u128) -> bool
+        ensures { result ≡ shown.has_waited client self.now.signs.items }
+    {
+        self.signs
+            .iter()
+            .any(|sign| sign.client == client && !sign.rests)
     }
 
     /// All of it was heeded.
