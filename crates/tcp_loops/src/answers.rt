@@ -1,6 +1,8 @@
 //! What a loop does with the requests of its connections, and with the answers to their events.
 
-ghost use Rattle.std.specs.Prelude.{◌≡◌, false};
+ghost use Rattle.std.specs.Prelude.{◌≡◌, false, IfSome};
+ghost use Rattle.loop_rules.specs.Concerns.{AreAllTold};
+ghost use Rattle.loop_rules.specs.Heard as heard;
 ghost use Rattle.loop_rules.specs.Pressures.{IsSame};
 ghost use Rattle.loop_rules.specs.Rounds as rounds;
 
@@ -144,6 +146,9 @@ impl<R: Wait + Clock + Copy + Drop, L: Log> Driver<'_, R, L> {
     /// A message was answered whose connection went on before that.
     fn hear_ahead(&mut self, key: usize, got: &Answered)
         ensures round { self.new.round ≡ rounds.after_answer got.now 0 self.old.round }
+        ensures told { IfSome (heard.done_of got.now) (λ done.
+            AreAllTold self.old.number self.old.base.now.rules.now.loops done
+            self.new.connections.links.roster self.new.notes) }
     {
         let base = self.base;
         self.round = self.round.note_answer(got, 0);
@@ -179,14 +184,28 @@ impl<R: Wait + Clock + Copy + Drop, L: Log> Driver<'_, R, L> {
         }
     }
 
-    /// Tells whom the answer to an event of a connection concerns: those for whom it put something
-    /// even where the connection is over by now.
+    /// Tells whom the answer to an event of a connection concerns: its client, and those for whom it
+    /// put something, even where the connection is over by now.
     fn note(&mut self, key: usize, comes_over: bool, got: &Answered)
         ensures round { self.new.round ≡ self.old.round }
+        ensures told { IfSome (heard.done_of got.now) (λ done.
+            AreAllTold self.old.number self.old.base.now.rules.now.loops done
+            self.new.connections.links.roster self.new.notes) }
+    {
+        let base = self.base;
+        self.note_client(key, comes_over, got);
+        let links = &mut self.connections.links;
+        links.wake_for(self.number, base.rules.loops, got, &mut self.notes);
+    }
+
+    /// Tells whom it concerns beside those for whom it put something.
+    fn note_client(&mut self, key: usize, comes_over: bool, got: &Answered)
+        ensures round { self.new.round ≡ self.old.round }
+        ensures number { self.new.number ≡ self.old.number }
+        ensures base { self.new.base ≡ self.old.base }
     {
         let (base, now) = (self.base, self.round.now);
         let links = &mut self.connections.links;
-        links.wake_for(self.number, base.rules.loops, got, &mut self.notes);
         let Some(client) = links.client(key) else {
             return;
         };
