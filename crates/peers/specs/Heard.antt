@@ -1,5 +1,5 @@
 -- What the answer to an event does to a WebSocket.
-use Rattle.std.specs.Prelude.{◌&&◌, not, ℕ, Bool, true, false, List, [], ◌∷◌, None, Some, is_none, Result, Ok, Err, is_err, cond}
+use Rattle.std.specs.Prelude.{◌&&◌, not, ℕ, Bool, true, false, List, [], ◌∷◌, is_none, Result, Ok, Err, is_err, cond}
 use Rattle.events.specs.declared.fault.CoreFault.{CoreFault}
 use Rattle.events.specs.declared.fault.CoreFault.TheVariants as fault
 use Rattle.events.specs.declared.event.WsFrame.{WsFrame}

@@ -1,4 +1,4 @@
-use Rattle.std.proofs.Common.{◌≡◌, take}
+use Rattle.std.proofs.Common.{take}
 use Rattle.backend_watch.specs.Watching.{ListsAll}
 use Rattle.backend_watch.proofs.sight.Sight.list_all.Given as goal
 

@@ -1,4 +1,4 @@
-use Rattle.std.proofs.Common.{◌≡◌, map, take}
+use Rattle.std.proofs.Common.{map, take}
 use Rattle.std.specs.List.{FoldsTo}
 use Rattle.backend_watch.specs.Watching.{ListsAll}
 use Rattle.backend_watch.proofs.sight.Sight.press.Given as goal
