@@ -15,6 +15,8 @@ import urllib.parse
 
 HOST = "127.0.0.1"
 PATIENCE = 20
+# What the C library of a server is told, as in packaging/serve: memory of large messages goes back to the system once it is freed.
+GIVES_BACK = {"MALLOC_MMAP_THRESHOLD_": "1000000"}
 
 
 def free_port():
