@@ -9,7 +9,7 @@ use Rattle.loop_rules.specs.declared.looks.Pause.TheVariants as pause
 use Rattle.loop_rules.specs.declared.looks.Decision.{Decision}
 use Rattle.loop_rules.specs.declared.looks.Decision.TheVariants as decision
 use Rattle.loop_rules.specs.Decisions.{decision_for}
-use Rattle.loop_rules.specs.Looks.{is_awake, called, begun, paused, followed, is_dry, is_calm, finds_dry, has_looked, may_rest, Step, Comes, Begins, Follows, Pauses, state_after, was_dry, is_under_way, came_since_look, NeverRests}
+use Rattle.loop_rules.specs.Looks.{is_awake, called, takes_yet, put_for, begun, paused, followed, is_dry, is_calm, finds_dry, has_looked, may_rest, Step, Comes, Puts, Begins, Follows, Pauses, state_after, was_dry, is_under_way, came_since_look, NeverRests}
 
 awake-called : (s : LookState) → is_awake (called s) ≡ true
 awake-called state.Rests = refl
@@ -19,6 +19,17 @@ awake-called state.Full = refl
 awake-called state.Early = refl
 awake-called (state.Looks dry) = refl
 awake-called (state.Stirred dry) = refl
+
+-- where something was put, one that was awake or has no look that takes it is so
+awake-put : (s : LookState) (came : Bool) → (came ≡ true → is_awake s ≡ true) → cond (takes_yet s) came true ≡ true → is_awake (put_for s) ≡ true
+awake-put state.Rests came was c = refl
+awake-put state.Called came was c = refl
+awake-put state.Again came was c = refl
+awake-put state.Full came was c = refl
+awake-put state.Early came was c = refl
+awake-put (state.Looks true) came was c = refl
+awake-put (state.Looks false) came was c = was c
+awake-put (state.Stirred dry) came was c = refl
 
 -- it rests, or is called: no look is under way
 rests-or-called : LookState → Bool
@@ -74,6 +85,16 @@ dry-called state.Again d = absurd (cc)
 dry-called state.Full d = absurd (cc)
 dry-called state.Early d = absurd (cc)
 
+dry-put : (s : LookState) → is_dry (put_for s) ≡ true → is_dry s ≡ true
+dry-put (state.Looks true) d = d
+dry-put (state.Looks false) d = d
+dry-put (state.Stirred dry) d = d
+dry-put state.Rests d = absurd (cc)
+dry-put state.Called d = absurd (cc)
+dry-put state.Again d = absurd (cc)
+dry-put state.Full d = absurd (cc)
+dry-put state.Early d = absurd (cc)
+
 not-dry-begun : (s : LookState) → is_dry (begun s) ≡ false
 not-dry-begun state.Rests = refl
 not-dry-begun state.Called = refl
@@ -105,6 +126,7 @@ dry : (h : List Step) → is_dry (state_after h) ≡ true → was_dry h ≡ true
 unfolding state_after was_dry
 dry [] d = absurd (cc)
 dry (Comes ∷ h) d = dry h (dry-called (state_after h) d)
+dry (Puts ∷ h) d = dry h (dry-put (state_after h) d)
 dry (Begins ∷ h) d = absurd (cc (not-dry-begun (state_after h)))
 dry (Follows f left full ∷ h) d = dry-followed (state_after h) f (decision_for left (may_rest (state_after h) f) full) d
 dry (Pauses p ∷ h) d = absurd (cc (not-dry-paused (state_after h) p))
@@ -130,6 +152,17 @@ called-start state.Full r = absurd (cc)
 called-start state.Early r = absurd (cc)
 called-start (state.Looks dry) r = absurd (cc)
 called-start (state.Stirred dry) r = absurd (cc)
+
+put-start : (s : LookState) → rests-or-called (put_for s) ≡ true → rests-or-called s ≡ true
+unfolding rests-or-called
+put-start state.Rests r = refl
+put-start state.Called r = refl
+put-start state.Again r = absurd (cc)
+put-start state.Full r = absurd (cc)
+put-start state.Early r = absurd (cc)
+put-start (state.Looks true) r = absurd (cc)
+put-start (state.Looks false) r = absurd (cc)
+put-start (state.Stirred dry) r = absurd (cc)
 
 begun-looks : (s : LookState) → rests-or-called (begun s) ≡ false
 unfolding rests-or-called
@@ -180,6 +213,7 @@ start : (h : List Step) → rests-or-called (state_after h) ≡ true → is_unde
 unfolding state_after is_under_way
 start [] r = refl
 start (Comes ∷ h) r = start h (called-start (state_after h) r)
+start (Puts ∷ h) r = start h (put-start (state_after h) r)
 start (Begins ∷ h) r = absurd (cc (begun-looks (state_after h)))
 start (Follows f left full ∷ h) r =
     let over : has_looked (is_dry (state_after h)) f ≡ true =
@@ -204,6 +238,7 @@ pub awake : (h : List Step) → came_since_look h ≡ true → is_awake (state_a
 unfolding state_after came_since_look
 awake [] c = absurd (cc)
 awake (Comes ∷ h) c = awake-called (state_after h)
+awake (Puts ∷ h) c = awake-put (state_after h) (came_since_look h) (awake h) c
 awake (Begins ∷ h) c =
     let parts : (is_under_way h ≡ true) × (came_since_look h ≡ true) = both (is_under_way h) (came_since_look h) c in
     awake-begun (state_after h) (awake h parts.1)

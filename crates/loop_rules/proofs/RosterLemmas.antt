@@ -1,19 +1,32 @@
 -- Who was told stays told.
-use Rattle.std.proofs.Common.{◌≡◌, ◌∙◌, true, false, Bool, Option, None, Some, nat_eq, ℕ, ◌+◌, ◌<◌, ◌⊎◌, inl, inr, List, [], slice_index_or, sym, subst, arith}
+use Rattle.std.proofs.Common.{◌≡◌, ◌∙◌, true, false, Bool, cond, Option, None, Some, nat_eq, ℕ, ◌+◌, ◌<◌, ◌⊎◌, inl, inr, List, [], slice_index_or, sym, subst, refl, arith}
 use Rattle.std.proofs.lemmas.Bool.{cases_eq}
 use Rattle.loop_rules.specs.declared.looks.LookState.{LookState}
 use Rattle.loop_rules.specs.declared.roster.Roster.{Roster}
 use Rattle.loop_rules.specs.declared.roster.Notes.{Notes}
-use Rattle.loop_rules.specs.Rotas.{Waiting, called_at}
+use Rattle.loop_rules.specs.Rotas.{Waiting, called_at, look_of, put_for_at}
+use Rattle.loop_rules.specs.Looks.{takes_yet}
 use Rattle.loop_rules.specs.Ids.{loop_of}
 use Rattle.loop_rules.specs.Notes.{is_noted}
 use Rattle.loop_rules.specs.Rosters.{AreTold, IsTold, IsToldBy, IsWoken, Keeps, Remembers}
 use Rattle.loop_rules.specs.Takers.{taker_of}
-use Rattle.loop_rules.proofs.RotaLemmas.{called_keeps, called_long, itself}
+use Rattle.loop_rules.proofs.RotaLemmas.{called_keeps, called_long, called_takes, itself}
 
 -- a call keeps who will look
 pub called_kept : (w : Waiting) (key : ℕ) → Keeps w.looks (called_at key w).looks
-called_kept w key = record { long = called_long w key; kept = λ k was. called_keeps w key k was }
+called_kept w key = record {
+  long = called_long w key;
+  kept = λ k was. called_keeps w key k was;
+  takes = λ k was. called_takes w key k was;
+}
+
+put-kept : (b : Bool) (w : Waiting) (key : ℕ) → Keeps w.looks (cond b w (called_at key w)).looks
+put-kept true w key = record { long = refl; kept = λ k was. was; takes = λ k was. was }
+put-kept false w key = called_kept w key
+
+-- so does what is put for a client
+pub put_kept : (w : Waiting) (key : ℕ) → Keeps w.looks (put_for_at key w).looks
+put_kept w key = put-kept (takes_yet (look_of w.looks key)) w key
 
 list-at : (own loops : ℕ) (lists : List (List ℕ)) (i k : ℕ) (r : Roster) (n : Notes)
     → ((k : ℕ) → k < i → AreTold own loops (slice_index_or lists k []) r n) → AreTold own loops (slice_index_or lists i []) r n
@@ -32,7 +45,11 @@ list_more own loops lists i r n before here k below = list-at own loops lists i 
 pub woken_more : (p q r : Roster) (m n : Notes) → Remembers p q m n → r.takers ≡ q.takers → Keeps q.rota.looks r.rota.looks → Remembers p r m n
 woken_more p q r m n before same keeps = record {
   takers = same ∙ before.takers;
-  looks = record { long = keeps.long ∙ before.looks.long; kept = λ k is. keeps.kept k (before.looks.kept k is) };
+  looks = record {
+    long = keeps.long ∙ before.looks.long;
+    kept = λ k is. keeps.kept k (before.looks.kept k is);
+    takes = λ k is. keeps.takes k (before.looks.takes k is);
+  };
   noted = before.noted;
 }
 
@@ -51,7 +68,7 @@ remembered_on p q r l m n before after =
     noted_more p r l m n (woken_more p q r l m before after.takers after.looks) after.noted
 
 woken-on : (t : Option ℕ) (all : Bool) (old new : List LookState) → Keeps old new → IsWoken t all old → IsWoken t all new
-woken-on (Some key) all old new keeps is = λ below. keeps.kept key (is (omega (arith, below, keeps.long)))
+woken-on (Some key) all old new keeps is = λ below. keeps.takes key (is (omega (arith, below, keeps.long)))
 woken-on None all old new keeps is = λ so key below. keeps.kept key (is so key (omega (arith, below, keeps.long)))
 
 told-by : (b : Bool) (owner client : ℕ) (q r : Roster) (n : Notes) → r.takers ≡ q.takers → Keeps q.rota.looks r.rota.looks

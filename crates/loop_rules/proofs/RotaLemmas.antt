@@ -7,7 +7,7 @@ use Rattle.std.proofs.lemmas.Bool.Decides.{eqb_tells, leb_tells}
 use Rattle.loop_rules.specs.declared.looks.LookState.{LookState}
 use Rattle.loop_rules.specs.declared.looks.LookState.TheVariants as state
 use Rattle.loop_rules.specs.Looks.{is_queued, is_to_queue, begun, called}
-use Rattle.loop_rules.specs.Rotas.{Waiting, IsOrderly, look_of, one_if, times, queued_count, has_stint, will_look, with_look, called_at}
+use Rattle.loop_rules.specs.Rotas.{Waiting, IsOrderly, look_of, one_if, times, queued_count, has_stint, will_look, will_take, with_look, called_at}
 
 -- where one isn't queued, fewer are than there are
 pub fewer : (looks : List LookState) (key : ℕ) → key < length looks → is_queued (look_of looks key) ≡ false
@@ -293,20 +293,40 @@ called-looks true true w key s = refl
 called-looks true false w key s = refl
 called-looks false queues w key s = refl
 
-kept-at : (there : Bool) (looks : List LookState) (key k : ℕ) (s : LookState) → (there ≡ true → key < length looks)
-    → will_look s ≡ true → will_look (look_of looks k) ≡ true → (k ≡ key) ⊎ (k ≡ key → ⊥)
-    → will_look (look_of (cond there (slice_set looks key s) looks) k) ≡ true
-kept-at false looks key k s below now was same = was
-kept-at true looks key k s below now was (inl here) =
-    subst (λ x. will_look (look_of (slice_set looks key s) x) ≡ true) (sym here) (rw (look-same looks key s (below refl)) now)
-kept-at true looks key k s below now was (inr other) = rw (look-other looks key k s other) was
+kept-at : (P : LookState → Bool) (there : Bool) (looks : List LookState) (key k : ℕ) (s : LookState) → (there ≡ true → key < length looks)
+    → P s ≡ true → P (look_of looks k) ≡ true → (k ≡ key) ⊎ (k ≡ key → ⊥)
+    → P (look_of (cond there (slice_set looks key s) looks) k) ≡ true
+kept-at P false looks key k s below now was same = was
+kept-at P true looks key k s below now was (inl here) =
+    subst (λ x. P (look_of (slice_set looks key s) x) ≡ true) (sym here) (rw (look-same looks key s (below refl)) now)
+kept-at P true looks key k s below now was (inr other) = rw (look-other looks key k s other) was
+
+-- what holds of one that is called, and held of another one, holds of it after the call
+called-keeps : (P : LookState → Bool) (w : Waiting) (key k : ℕ) → P (called (look_of w.looks key)) ≡ true
+    → P (look_of w.looks k) ≡ true → P (look_of (called_at key w).looks k) ≡ true
+called-keeps P w key k now was =
+    let s : LookState = called (look_of w.looks key) in
+    rw (called-looks (nat_lt key (length w.looks)) (is_to_queue (look_of w.looks key)) w key s)
+    (kept-at P (nat_lt key (length w.looks)) w.looks key k s (ltb-true key (length w.looks)) now was (cases_eq k key))
 
 -- who will look still will after another was called
 pub called_keeps : (w : Waiting) (key k : ℕ) → will_look (look_of w.looks k) ≡ true → will_look (look_of (called_at key w).looks k) ≡ true
-called_keeps w key k was =
-    let s : LookState = called (look_of w.looks key) in
-    rw (called-looks (nat_lt key (length w.looks)) (is_to_queue (look_of w.looks key)) w key s)
-    (kept-at (nat_lt key (length w.looks)) w.looks key k s (ltb-true key (length w.looks)) (will_look-called (look_of w.looks key)) was (cases_eq k key))
+called_keeps w key k was = called-keeps will_look w key k (will_look-called (look_of w.looks key)) was
+
+will_take-looks : (s : LookState) → will_look s ≡ true → will_take s ≡ true
+will_take-looks state.Called is = refl
+will_take-looks state.Again is = refl
+will_take-looks (state.Stirred dry) is = refl
+will_take-looks (state.Looks true) is = absurd (cc)
+will_take-looks (state.Looks false) is = refl
+will_take-looks state.Rests is = absurd (cc)
+will_take-looks state.Full is = absurd (cc)
+will_take-looks state.Early is = absurd (cc)
+
+-- and who will look or take
+pub called_takes : (w : Waiting) (key k : ℕ) → will_take (look_of w.looks k) ≡ true → will_take (look_of (called_at key w).looks k) ≡ true
+called_takes w key k was =
+    called-keeps will_take w key k (will_take-looks (called (look_of w.looks key)) (will_look-called (look_of w.looks key))) was
 
 set-long : (there : Bool) (looks : List LookState) (key : ℕ) (s : LookState) → length (cond there (slice_set looks key s) looks) ≡ length looks
 set-long true looks key s = length-set looks key s

@@ -8,7 +8,7 @@ use Rattle.loop_rules.specs.Takers.{taker_of}
 use Rattle.loop_rules.specs.Concerns.{IsWokenFor}
 
 kept-on : (taker : Option ℕ) (unlisted : Bool) (old new : List LookState) → Keeps old new → IsWoken taker unlisted old → IsWoken taker unlisted new
-kept-on (Some key) unlisted old new keeps is = λ below. keeps.kept key (is (omega (arith, below, keeps.long)))
+kept-on (Some key) unlisted old new keeps is = λ below. keeps.takes key (is (omega (arith, below, keeps.long)))
 kept-on None unlisted old new keeps is = λ so key below. keeps.kept key (is so key (omega (arith, below, keeps.long)))
 
 -- also where another one is woken

@@ -17,7 +17,7 @@ use Rattle.loop_rules.specs.declared.link.Link.{Link}
 abbrev pub IsListed : (client key : ℕ) → Takers → Type 0
 IsListed client key t = (taker_of t client ≡ Some key) ⊎ ((taker_of t client ≡ None) × (t.unlisted ≡ true))
 
--- the connection over which a client is told what is put for it will look
+-- the connection over which a client is told what is put for it will look, or its look has yet to take that
 abbrev pub IsWokenFor : (client : ℕ) → Roster → Type 0
 IsWokenFor client r = IsWoken (taker_of r.takers client) r.takers.unlisted r.rota.looks
 

@@ -25,6 +25,17 @@ called (state.Looks dry) = state.Stirred dry
 called (state.Stirred dry) = state.Stirred dry
 called _ = state.Again
 
+-- it is its stint, nothing came since it began to look, and its look has yet to find that all was taken. It
+-- rests after an answer that says so, which is to an event after what was put by now, since answers are heard
+-- in the order of their events; or by a pause, where it serves its client no more
+abbrev pub takes_yet : LookState → Bool
+takes_yet (state.Looks false) = true
+takes_yet _ = false
+
+-- something was put for its client: one whose look has yet to find that all was taken takes that, too
+abbrev pub put_for : LookState → LookState
+put_for s = cond (takes_yet s) s (called s)
+
 -- it stands in the queue
 abbrev pub is_queued : LookState → Bool
 is_queued state.Called = true
@@ -95,10 +106,11 @@ is_awake state.Rests = false
 is_awake (state.Looks dry) = false
 is_awake _ = true
 
--- what may happen to a connection; at an answer, how many events its stint has left, and whether it has
--- too much unsent
+-- what may happen to a connection: something comes over its stream, say, or is put for its client; at an
+-- answer, how many events its stint has left, and whether it has too much unsent
 pub data Step : Type 0 where
   Comes : Step
+  Puts : Step
   Begins : Step
   Follows : Found → ℕ → Bool → Step
   Pauses : Pause → Step
@@ -107,6 +119,7 @@ pub data Step : Type 0 where
 unfoldable pub state_after : List Step → LookState
 state_after [] = first
 state_after (Comes ∷ h) = called (state_after h)
+state_after (Puts ∷ h) = put_for (state_after h)
 state_after (Begins ∷ h) = begun (state_after h)
 state_after (Follows f left full ∷ h) =
     followed (state_after h) f (decision_for left (may_rest (state_after h) f) full)
@@ -116,6 +129,7 @@ state_after (Pauses p ∷ h) = paused (state_after h) p
 unfoldable pub was_dry : List Step → Bool
 was_dry (Follows f left full ∷ h) = finds_dry f
 was_dry (Comes ∷ h) = was_dry h
+was_dry (Puts ∷ h) = was_dry h
 was_dry _ = false
 
 -- a look is cut in two where its stint ends before its bytes have gone, or its moment has come
@@ -129,14 +143,17 @@ cuts _ = false
 unfoldable pub is_under_way : List Step → Bool
 is_under_way [] = false
 is_under_way (Comes ∷ h) = is_under_way h
+is_under_way (Puts ∷ h) = is_under_way h
 is_under_way (Begins ∷ h) = is_under_way h
 is_under_way (Follows f left full ∷ h) = cond (has_looked (was_dry h) f) false true
 is_under_way (Pauses p ∷ h) = cuts p && is_under_way h
 
--- something came since the last look began: one begins with a stint, and where one is over
+-- something came since the last look began that this doesn't take: one begins with a stint, and where one
+-- is over
 unfoldable pub came_since_look : List Step → Bool
 came_since_look [] = false
 came_since_look (Comes ∷ h) = true
+came_since_look (Puts ∷ h) = cond (takes_yet (state_after h)) (came_since_look h) true
 came_since_look (Begins ∷ h) = is_under_way h && came_since_look h
 came_since_look (Follows f left full ∷ h) = cond (has_looked (was_dry h) f) false (came_since_look h)
 came_since_look (Pauses p ∷ h) = came_since_look h

@@ -5,25 +5,26 @@ use Rattle.loop_rules.specs.declared.roster.Roster.{Roster}
 use Rattle.loop_rules.specs.declared.roster.Notes.{Notes}
 use Rattle.loop_rules.specs.Ids.{loop_of}
 use Rattle.loop_rules.specs.Notes.{is_noted}
-use Rattle.loop_rules.specs.Rotas.{Waiting, look_of, will_look, called_at, called_below}
+use Rattle.loop_rules.specs.Rotas.{Waiting, look_of, will_look, will_take, put_for_at, called_below}
 use Rattle.loop_rules.specs.Takers.{taker_of}
 
--- the connection to which what is put for a client goes will look, if there is one here; where there was no
--- memory to list some, all will
+-- the connection to which what is put for a client goes will look, or its look has yet to take that, if there
+-- is one here; where there was no memory to list some, all will look
 abbrev pub IsWoken : Option ℕ → Bool → List LookState → Type 0
-IsWoken (Some key) unlisted looks = key < length looks → will_look (look_of looks key) ≡ true
+IsWoken (Some key) unlisted looks = key < length looks → will_take (look_of looks key) ≡ true
 IsWoken None unlisted looks =
     unlisted ≡ true → (key : ℕ) → key < length looks → will_look (look_of looks key) ≡ true
 
--- who takes for a client is called; where none is listed and some could not be, all are
+-- something was put for whom takes for a client; where none is listed and some could not be, all are
 abbrev pub woken_at : Option ℕ → Bool → Waiting → Waiting
-woken_at (Some key) unlisted w = called_at key w
+woken_at (Some key) unlisted w = put_for_at key w
 woken_at None unlisted w = cond unlisted (called_below (length w.looks) w) w
 
--- who will look still will
+-- who will look still will, and who will look or take
 pub record Keeps (old new : List LookState) : Type 0 where
   pub long : length new ≡ length old
   pub kept : (key : ℕ) → will_look (look_of old key) ≡ true → will_look (look_of new key) ≡ true
+  pub takes : (key : ℕ) → will_take (look_of old key) ≡ true → will_take (look_of new key) ≡ true
 
 -- a client of this loop is woken, and one of another is noted for it
 abbrev pub IsToldBy : Bool → ℕ → ℕ → Roster → Notes → Type 0

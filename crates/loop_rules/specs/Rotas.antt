@@ -1,12 +1,12 @@
 -- The connections of a loop that have something to do, by their keys.
-use Rattle.std.specs.Prelude.{◌≡◌, ℕ, zero, suc, ◌≤◌, Bool, true, false, cond, nat_eq, nat_lt, Option, None, Some, List, [], ◌∷◌, ◌++◌, length, count_by, slice_index_or, slice_set}
+use Rattle.std.specs.Prelude.{◌≡◌, ℕ, zero, suc, ◌≤◌, Bool, true, false, ◌||◌, cond, nat_eq, nat_lt, Option, None, Some, List, [], ◌∷◌, ◌++◌, length, count_by, slice_index_or, slice_set}
 use Rattle.loop_rules.specs.declared.looks.LookState.{LookState}
 use Rattle.loop_rules.specs.declared.looks.LookState.TheVariants as state
 use Rattle.loop_rules.specs.declared.looks.Pause.{Pause}
 use Rattle.loop_rules.specs.declared.looks.Found.{Found}
 use Rattle.loop_rules.specs.declared.looks.Decision.{Decision}
 use Rattle.loop_rules.specs.declared.looks.Decision.TheVariants as decision
-use Rattle.loop_rules.specs.Looks.{called, begun, paused, followed, is_queued, is_to_queue, may_rest}
+use Rattle.loop_rules.specs.Looks.{called, takes_yet, begun, paused, followed, is_queued, is_to_queue, may_rest}
 use Rattle.loop_rules.specs.Decisions.{decision_for}
 
 -- how each connection stands; the keys of those that have something to do in this round of the loop, and
@@ -59,6 +59,10 @@ will_look state.Again = true
 will_look (state.Stirred dry) = true
 will_look _ = false
 
+-- so it is, or its look has yet to find that all was taken
+abbrev pub will_take : LookState → Bool
+will_take s = takes_yet s || will_look s
+
 -- the connection with this key stands so now
 abbrev pub with_look : ℕ → LookState → Waiting → Waiting
 with_look key s w = record w { looks = slice_set w.looks key s }
@@ -72,6 +76,10 @@ called_at key w =
     (record { looks = slice_set w.looks key (called s); ready = w.ready ++ key ∷ []; again = w.again })
     (with_look key (called s) w))
     w
+
+-- something was put for the client of a connection: it is called, unless its look takes that
+abbrev pub put_for_at : ℕ → Waiting → Waiting
+put_for_at key w = cond (takes_yet (look_of w.looks key)) w (called_at key w)
 
 -- the connections with keys below this were called, one after another
 abbrev pub called_below : ℕ → Waiting → Waiting

@@ -83,6 +83,13 @@ impl LookState {
         matches!(self, LookState::Looks { .. })
     }
 
+    /// Whether its look has yet to find that all was taken: what is put for its client is taken by it.
+    pub fn takes_yet(self) -> bool
+        ensures { result ≡ looks.takes_yet self }
+    {
+        matches!(self, LookState::Looks { dry: false })
+    }
+
     /// Whether its look is over.
     fn has_looked(self, found: Found) -> bool
         ensures { result ≡ looks.has_looked (looks.is_dry self) found }

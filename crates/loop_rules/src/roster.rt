@@ -5,7 +5,7 @@ ghost use Rattle.std.specs.Prelude.{◌⊎◌, None, Some, IfOk, [], map, slice_
 ghost use Rattle.std.specs.VecDeque.{DequeUnchanged, deque_capacity};
 ghost use Rattle.loop_rules.specs.Looks.{is_queued};
 ghost use Rattle.loop_rules.specs.Rotas as rotas;
-ghost use Rattle.loop_rules.specs.Rotas.{IsQuiet, has_stint, look_of, will_look, nobody};
+ghost use Rattle.loop_rules.specs.Rotas.{IsQuiet, has_stint, look_of, will_look, will_take, nobody};
 ghost use Rattle.loop_rules.specs.Decisions.{left_after};
 ghost use Rattle.loop_rules.specs.Notes.{is_noted};
 ghost use Rattle.loop_rules.specs.Rosters.{AreTold, IsWoken, Keeps, Remembers, woken_at};
@@ -110,6 +110,17 @@ impl Rota {
     {
         if key < self.looks.len() && self.looks[key].call() {
             self.ready.push_back_reserved(key);
+        }
+    }
+
+    /// Something was put for the client of this connection, which is called, unless its look takes it.
+    pub fn wake(&mut self, key: usize)
+        ensures state { self.new ≡ rotas.put_for_at key self.old }
+        ensures takes { key < length self.old.looks
+            → will_take (look_of self.new.looks key) ≡ true }
+    {
+        if !self.look(key).takes_yet() {
+            self.call(key);
         }
     }
 
@@ -313,7 +324,7 @@ impl Roster {
             ≡ woken_at (taker_of self.old.takers client) self.old.takers.unlisted self.old.rota }
     {
         match self.takers.of(client) {
-            Some(key) => self.rota.call(key),
+            Some(key) => self.rota.wake(key),
             None if self.takers.unlisted => self.rota.call_all(),
             None => {}
         }

@@ -108,13 +108,16 @@ fn heard(alloc: Global, message: Message<'_>) -> Incoming
     frame.map_or(Incoming::Gone(PeerFault::Memory), Incoming::Frame)
 }
 
-/// Forgets the first bytes. Mostly these are all, and then none has to move.
-fn forget_first(input: &mut Vec<u8>, count: usize)
+/// Forgets the first bytes. Mostly these are all, and then none has to move. Else the others are the
+/// end of what one read brought: they are copied, since to move them takes longer, where memory allows.
+fn forget_first(alloc: Global, input: &mut Vec<u8>, count: usize)
     requires { count ≤ vec_len input.old }
     ensures { input.new.items ≡ drop count input.old.items }
 {
     if count == input.len() {
         input.clear();
+    } else if let Ok(others) = Vec::from_slice(alloc, &input[count..]) {
+        *input = others;
     } else {
         input.drain(..count);
     }
@@ -275,7 +278,7 @@ impl<S: Write> FrameSocket<S> {
             Some(received) => heard(self.alloc, received.message(&self.input)),
             None => Incoming::Control,
         };
-        forget_first(&mut self.input, step.consumed);
+        forget_first(self.alloc, &mut self.input, step.consumed);
         match write_whole(&mut self.stream, &self.output) {
             Ok(()) => Some(came),
             Err(fault) => Some(Incoming::Gone(fault)),
