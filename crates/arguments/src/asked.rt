@@ -99,9 +99,7 @@ fn spaces<'a>(
 {
     let mut spaces = Vec::new(alloc);
     spaces.push("/")?;
-    for name in named {
-        spaces.push(*name)?;
-    }
+    spaces.extend_from_slice(named)?;
     if has_backends {
         spaces.push(BACKENDS)?;
     }

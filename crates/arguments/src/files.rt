@@ -7,9 +7,9 @@ ghost use Rattle.arguments.specs.Keys as keys_of;
 
 use crate::wrong::{Wrong, check_need};
 use std::alloc::{AllocError, Global};
-use std::fs;
 use std::io::ErrorKind;
 use std::rt::Files;
+use std::{fmt, fs};
 use terms::Text;
 use thiserror::Error;
 use tokens::{Key, Verifier};
@@ -17,18 +17,25 @@ use tokens::{Key, Verifier};
 /// Why a file gives no token or no key.
 #[derive(Clone, Copy, Debug, Error)]
 pub(crate) enum FileError {
-    #[error("out of memory")]
     Memory(#[from(alloc)] AllocError),
-    #[error("it can't be read")]
     NoFile,
-    #[error("it is not UTF-8")]
     NotUtf8,
-    #[error("there is no token in it")]
     NoToken,
-    #[error("there is no key in it")]
     NoKey,
-    #[error("a key has this name already, by which tokens name it")]
     SameName,
+}
+
+impl fmt::Display for FileError {
+    fn fmt<W: fmt::Write>(&self, f: &mut fmt::Formatter<W>) -> fmt::Result {
+        f.write_str(match self {
+            FileError::Memory(_) => "out of memory",
+            FileError::NoFile => "it can't be read",
+            FileError::NotUtf8 => "it is not UTF-8",
+            FileError::NoToken => "there is no token in it",
+            FileError::NoKey => "there is no key in it",
+            FileError::SameName => "a key has this name already, by which tokens name it",
+        })
+    }
 }
 
 /// What is told of the file that an option names, unless there was no memory.

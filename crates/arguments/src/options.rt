@@ -36,6 +36,17 @@ enum Usually {
     Words(&'static str),
 }
 
+impl Usually {
+    /// What holds, as text; empty where nothing does.
+    fn text(&self, alloc: Global) -> Result<String, AllocError> {
+        match self {
+            Nothing => Ok(String::new(alloc)),
+            Number(number) => format!(in alloc; "{number}"),
+            Words(text) => String::from_str(alloc, text),
+        }
+    }
+}
+
 /// An option: its name, what it does, what its value has to be, what holds where it isn't there.
 struct OptionRow {
     name: &'static str,
@@ -43,6 +54,22 @@ struct OptionRow {
     parser: ValueParser<'static>,
     usual: Usually,
     help: &'static str,
+}
+
+impl OptionRow {
+    /// The argument that it is, with the text of what is usual.
+    fn argument<'a>(&self, alloc: Global, usual: &'a str) -> Arg<'a> {
+        let argument = Arg::new(alloc, self.name)
+            .long(self.name)
+            .help(self.help)
+            .required(self.name == "port")
+            .action(self.action)
+            .value_parser(self.parser);
+        match self.usual {
+            Nothing => argument,
+            Number(_) | Words(_) => argument.default_value(usual),
+        }
+    }
 }
 
 /// The most that a u32 counts.
@@ -123,12 +150,8 @@ static OPTIONS: [OptionRow; 34] = options! {
 /// What holds where an option isn't there, as text; empty where nothing does. One for each option.
 pub(crate) fn usual_texts(alloc: Global) -> Result<Vec<String>, AllocError> {
     let mut texts = Vec::new(alloc);
-    for entry in OPTIONS.iter() {
-        texts.push(match entry.usual {
-            Nothing => String::new(alloc),
-            Number(number) => format!(in alloc; "{number}")?,
-            Words(text) => String::from_str(alloc, text)?,
-        })?;
+    for option in OPTIONS.iter() {
+        texts.push(option.usual.text(alloc)?)?;
     }
     Ok(texts)
 }
@@ -143,20 +166,10 @@ pub(crate) fn server<'a>(
     usual: &'a [String],
 ) -> Result<Command<'a>, AllocError> {
     let mut server = Command::new(alloc, name).about(about);
-    for (entry, usual) in OPTIONS.iter().zip(usual) {
-        if matches!(entry.name, "backend-token" | "end-expired") && !has_backends {
-            continue;
+    for (option, usual) in OPTIONS.iter().zip(usual) {
+        if has_backends || !matches!(option.name, "backend-token" | "end-expired") {
+            server = server.arg(option.argument(alloc, usual.as_str()))?;
         }
-        let option = Arg::new(alloc, entry.name)
-            .long(entry.name)
-            .help(entry.help)
-            .required(entry.name == "port")
-            .action(entry.action)
-            .value_parser(entry.parser);
-        server = server.arg(match entry.usual {
-            Nothing => option,
-            Number(_) | Words(_) => option.default_value(usual.as_str()),
-        })?;
     }
     Ok(server)
 }

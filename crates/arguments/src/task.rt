@@ -51,6 +51,14 @@ impl Program {
         program.subcommand(server(alloc, "serve", serve, true, usual)?)
     }
 
+    /// The error of arguments that can't be read.
+    fn misread(self, alloc: Global, fault: io::ErrorKind) -> Result<Error, AllocError> {
+        match fault {
+            io::ErrorKind::OutOfMemory => Err(AllocError),
+            _ => self.refusal(alloc, Wrong::NotUtf8),
+        }
+    }
+
     /// The error of arguments that can't be taken.
     fn refusal(self, alloc: Global, wrong: Wrong) -> Result<Error, AllocError>
         ensures { IfOk result (λ error. kind_of error ≡ ErrorKind.InvalidValue) }
@@ -105,8 +113,7 @@ pub fn read_server_arguments<R: Env + Files + AllocGlobal + Clone + Drop>(
 fn words<R: Env + AllocGlobal>(rt: &R, program: Program) -> Result<Vec<String>, Error> {
     match env::args(rt) {
         Ok(words) => Ok(words.collect(rt.alloc())?),
-        Err(error) if error.kind() == io::ErrorKind::OutOfMemory => Err(Error::from(AllocError)),
-        Err(_) => Err(program.refusal(rt.alloc(), Wrong::NotUtf8)?),
+        Err(error) => Err(program.misread(rt.alloc(), error.kind())?),
     }
 }
 

@@ -11,6 +11,7 @@ use journal::Config;
 use page::FolderError;
 use settings::{Setting, Settings};
 use std::alloc::AllocError;
+use std::fmt;
 use terms::Text;
 use thiserror::Error;
 
@@ -24,38 +25,49 @@ const WRONG_ORIGIN: &str =
 const WRONG_PATH: &str =
     "it begins without /, has a ?, a #, a blank or no ASCII, or is the socket's";
 
-const ONE_TOKEN: &str = "it has the token of --token-file, by which clients would be backends";
+const ONE_TOKEN: &str =
+    "--backend-token: it has the token of --token-file, by which clients would be backends";
+
+const NOBODY_TELLS: &str =
+    "--tell-left: with --backend-token there is no demonstration app that tells it";
 
 /// Why no server is made by these options.
 #[derive(Debug, Drop, Error)]
 pub(crate) enum Wrong {
-    #[error("out of memory")]
     Memory(#[from(alloc)] AllocError),
-    #[error("invalid UTF-8 was detected in one or more arguments")]
     NotUtf8,
-    #[error("--space {:?}: {WRONG_SPACE}", .0.as_str())]
     Space(Text),
-    #[error("bad {0}")]
     Setting(Setting),
-    #[error("--origin {0:?}: {WRONG_ORIGIN}")]
     Origin(String),
-    #[error("--metrics {0:?}: {WRONG_PATH}")]
     Metrics(String),
-    #[error("--burst: without --pace nothing is bounded")]
     BurstAlone,
-    #[error("--page {0}: {1}")]
     Page(String, FolderError),
-    #[error("--{0} {1}: {2}")]
     File(&'static str, String, FileError),
-    #[error("--jwt-audience: without --jwt-key no token is verified")]
     AudienceAlone,
-    #[error("--end-expired: without --jwt-key no token expires")]
     NothingExpires,
-    #[error("--tell-left: with --backend-token there is no demonstration app that tells it")]
     NobodyTells,
     /// Clients would be backends.
-    #[error("--backend-token: {ONE_TOKEN}")]
     OneToken,
+}
+
+impl fmt::Display for Wrong {
+    fn fmt<W: fmt::Write>(&self, f: &mut fmt::Formatter<W>) -> fmt::Result {
+        f.write_str(match self {
+            Wrong::Memory(_) => "out of memory",
+            Wrong::NotUtf8 => "invalid UTF-8 was detected in one or more arguments",
+            Wrong::BurstAlone => "--burst: without --pace nothing is bounded",
+            Wrong::AudienceAlone => "--jwt-audience: without --jwt-key no token is verified",
+            Wrong::NothingExpires => "--end-expired: without --jwt-key no token expires",
+            Wrong::NobodyTells => NOBODY_TELLS,
+            Wrong::OneToken => ONE_TOKEN,
+            Wrong::Setting(setting) => return write!(f, "bad {setting}"),
+            Wrong::Space(space) => return write!(f, "--space {:?}: {WRONG_SPACE}", space.as_str()),
+            Wrong::Origin(origin) => return write!(f, "--origin {origin:?}: {WRONG_ORIGIN}"),
+            Wrong::Metrics(path) => return write!(f, "--metrics {path:?}: {WRONG_PATH}"),
+            Wrong::Page(folder, fault) => return write!(f, "--page {folder}: {fault}"),
+            Wrong::File(option, file, fault) => return write!(f, "--{option} {file}: {fault}"),
+        })
+    }
 }
 
 /// Whether one of the bytes may stand in no scheme and no host.
@@ -105,16 +117,27 @@ fn is_path(text: &str) -> bool
     text.starts_with('/') && !has_strange_path(text.as_bytes()) && !is_of_socket(text)
 }
 
+/// Takes the last namespace away, and gives it if limits with those that are left are allowed, and
+/// with it they aren't.
+fn wrong_last(hub: &mut Config) -> Option<Text>
+    ensures { IfSome result (IsFirstBad hub.new) }
+{
+    let was_bad = hub.is_bad();
+    let last = hub.spaces.pop()?;
+    if was_bad && !hub.is_bad() {
+        return Some(last);
+    }
+    None
+}
+
 /// Takes the first namespace away that is wrong, with those behind it: limits with those that are left
 /// are allowed, and with it they aren't.
 fn wrong_space(hub: &mut Config) -> Option<Text>
     ensures { IfSome result (IsFirstBad hub.new) }
 {
     for _ in 0..hub.spaces.len() {
-        let was_bad = hub.is_bad();
-        let last = hub.spaces.pop();
-        if was_bad && !hub.is_bad() {
-            return last;
+        if let Some(space) = wrong_last(hub) {
+            return Some(space);
         }
     }
     None
@@ -164,9 +187,10 @@ pub(crate) fn check_need(is_asked: bool, is_there: bool, wrong: Wrong) -> Result
     ensures { result ≡ ok_unless (rules.need_refusal is_asked is_there wrong) }
 {
     if is_asked && !is_there {
-        return Err(wrong);
+        Err(wrong)
+    } else {
+        Ok(())
     }
-    Ok(())
 }
 
 /// Refuses backends beside an app that tells who left, and with the token of clients.
@@ -177,11 +201,15 @@ pub(crate) fn check_backend(
 ) -> Result<(), Wrong>
     ensures { result ≡ ok_unless (rules.backend_refusal backend.now token.now tells_left) }
 {
-    match (backend, token) {
-        (None, _) => Ok(()),
-        (Some(_), _) if tells_left => Err(Wrong::NobodyTells),
-        (Some(backend), Some(token)) if backend.as_str() == token.as_str() => Err(Wrong::OneToken),
-        (Some(_), _) => Ok(()),
+    let Some(backend) = backend else {
+        return Ok(());
+    };
+    if tells_left {
+        return Err(Wrong::NobodyTells);
+    }
+    match token {
+        Some(token) if backend.as_str() == token.as_str() => Err(Wrong::OneToken),
+        _ => Ok(()),
     }
 }
 
