@@ -147,10 +147,15 @@ static OPTIONS: [OptionRow; 34] = options! {
     "verbose" SetTrue Bool, Nothing, "Tells on standard error of each client that ends";
 };
 
+/// The rows of the table.
+fn rows() -> &'static [OptionRow] {
+    &OPTIONS
+}
+
 /// What holds where an option isn't there, as text; empty where nothing does. One for each option.
 pub(crate) fn usual_texts(alloc: Global) -> Result<Vec<String>, AllocError> {
     let mut texts = Vec::new(alloc);
-    for option in OPTIONS.iter() {
+    for option in rows() {
         texts.push(option.usual.text(alloc)?)?;
     }
     Ok(texts)
@@ -165,11 +170,11 @@ pub(crate) fn server<'a>(
     has_backends: bool,
     usual: &'a [String],
 ) -> Result<Command<'a>, AllocError> {
-    let mut server = Command::new(alloc, name).about(about);
-    for (option, usual) in OPTIONS.iter().zip(usual) {
+    let mut arguments = Vec::new(alloc);
+    for (option, usual) in rows().iter().zip(usual) {
         if has_backends || !matches!(option.name, "backend-token" | "end-expired") {
-            server = server.arg(option.argument(alloc, usual.as_str()))?;
+            arguments.push(option.argument(alloc, usual.as_str()))?;
         }
     }
-    Ok(server)
+    Command::new(alloc, name).about(about).args(arguments)
 }
