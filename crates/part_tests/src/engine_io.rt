@@ -38,29 +38,38 @@ impl Part for Wire {
     const MEMORY: WireError = WireError::Memory;
 
     fn act(&mut self, alloc: Global, row: &Row) -> Result<bool, WireError> {
-        Ok(match row {
-            Row::Packet(text, want) => {
-                let packet = read_packet(alloc, text)?;
-                holds(&packet, *want) && write_packet(alloc, &packet)?.as_str() == *text
-            }
-            Row::Payload(text, want) => {
-                let packets = read_payload(alloc, text)?;
-                packets.len() == want.len()
-                    && packets
-                        .iter()
-                        .zip(*want)
-                        .all(|(packet, held)| holds(packet, *held))
-                    && write_payload(alloc, packets.as_slice())?.as_str() == *text
-            }
-            Row::Messages(texts) => {
-                let messages = messages(alloc, texts)?;
-                write_payload(alloc, messages.as_slice())?.is_empty()
-            }
+        match row {
+            Row::Packet(text, want) => is_packet(alloc, text, *want),
+            Row::Payload(text, want) => is_payload(alloc, text, want),
+            Row::Messages(texts) => are_written(alloc, texts),
             Row::Open(polling, want) => {
-                open_text(alloc, 1, *polling, &NUMBERS)?.as_str() == *want
+                Ok(open_text(alloc, 1, *polling, &NUMBERS)?.as_str() == *want)
             }
-        })
+        }
     }
+}
+
+/// Whether a text is read as this packet, which is written as the same text.
+fn is_packet(alloc: Global, text: &str, want: Held) -> Result<bool, WireError> {
+    let packet = read_packet(alloc, text)?;
+    Ok(holds(&packet, want) && write_packet(alloc, &packet)?.as_str() == text)
+}
+
+/// Whether a payload is read as these packets, which are written as the same payload.
+fn is_payload(alloc: Global, text: &str, want: &[Held]) -> Result<bool, WireError> {
+    let packets = read_payload(alloc, text)?;
+    let are_held = packets.len() == want.len()
+        && packets
+            .iter()
+            .zip(want)
+            .all(|(packet, held)| holds(packet, *held));
+    Ok(are_held && write_payload(alloc, packets.as_slice())?.as_str() == text)
+}
+
+/// Whether messages of these texts are written as nothing.
+fn are_written(alloc: Global, texts: &[&str]) -> Result<bool, WireError> {
+    let messages = messages(alloc, texts)?;
+    Ok(write_payload(alloc, messages.as_slice())?.is_empty())
 }
 
 const NUMBERS: Numbers = Numbers {
@@ -151,27 +160,24 @@ fn packets(rt: HostRuntime) {
 
 #[test]
 fn ids(rt: HostRuntime) {
-    static IDS: [(u128, &str); 2] = [
+    static IDS: [(&str, Option<u128>); 8] = [
         (
-            0x0123_4567_89ab_cdef_0000_0000_0000_00ff,
             "0123456789abcdef00000000000000ff",
+            Some(0x0123_4567_89ab_cdef_0000_0000_0000_00ff),
         ),
-        (u128::MAX, "ffffffffffffffffffffffffffffffff"),
+        ("ffffffffffffffffffffffffffffffff", Some(u128::MAX)),
+        ("0123456789abcdef0000000000000ff", None),
+        ("0123456789abcdef000000000000000ff", None),
+        ("0123456789ABCDEF00000000000000FF", None),
+        ("0123456789abcdeg00000000000000ff", None),
+        ("+123456789abcdef00000000000000ff", None),
+        ("", None),
     ];
-    for (id, digits) in IDS.iter() {
-        assert!(rt; id_text(*id).as_slice() == digits.as_bytes(), "of {digits}");
-        assert!(rt; read_id(digits) == Some(*id), "of {digits}");
-    }
-    static NONE: [&str; 6] = [
-        "0123456789abcdef0000000000000ff",
-        "0123456789abcdef000000000000000ff",
-        "0123456789ABCDEF00000000000000FF",
-        "0123456789abcdeg00000000000000ff",
-        "+123456789abcdef00000000000000ff",
-        "",
-    ];
-    for text in NONE.iter() {
-        assert!(rt; read_id(text) == None, "of {text}");
+    for (text, want) in IDS.iter() {
+        assert!(rt; read_id(text) == *want, "of {text}");
+        if let Some(id) = want {
+            assert!(rt; id_text(*id).as_slice() == text.as_bytes(), "of {text}");
+        }
     }
 }
 

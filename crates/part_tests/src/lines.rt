@@ -103,6 +103,12 @@ fn is_frame(answer: Result<Option<SioPacket>, SioError>, want: Frame) -> Result<
     })
 }
 
+/// Whether this comes of a text frame.
+fn is_read(line: &mut Line, alloc: Global, text: &str, want: Frame) -> Result<bool, AckError> {
+    let mut scratch = Scratch::new(alloc);
+    is_frame(line.text(alloc, &mut scratch, text), want)
+}
+
 impl Part for Line {
     type Row = Deed;
 
@@ -118,10 +124,7 @@ impl Part for Line {
             Deed::Pong(now) => self.pong(*now),
             Deed::Connect(sid) => self.connect(Sid::new(*sid)),
             Deed::Disconnect(sid) => self.disconnect(Sid::new(*sid)),
-            Deed::Text(text, frame) => {
-                let given = self.text(alloc, &mut Scratch::new(alloc), text);
-                return is_frame(given, *frame);
-            },
+            Deed::Text(text, frame) => return is_read(self, alloc, text, *frame),
             Deed::Bytes(bytes, frame) => return is_frame(self.binary(alloc, bytes), *frame),
             Deed::Ask(sid, tag, until, id) => {
                 return Ok(self.ask(alloc, Sid::new(*sid), *tag, *until)? == *id);

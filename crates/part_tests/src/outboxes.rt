@@ -1,11 +1,12 @@
 //! Broadcasts to members whose outboxes grow, and a log that its bytes bound.
 
 use crate::play::{Part, play};
+use crate::rooms::{R, room};
 use hub_state::State;
 use journal::{Cast, Config, Form, HubError, Totals};
 use recovery::Pid;
 use std::alloc::{AllocError, Global};
-use terms::{Attachments, Room, Sid, Text};
+use terms::{Attachments, Sid, Text};
 
 /// What is called, with what it answers last. A client's socket has the client's number.
 pub enum Row {
@@ -81,12 +82,8 @@ fn does(state: &mut State, alloc: Global, row: &Row) -> Result<bool, HubError> {
             let (sid, pid) = (Sid::new(*client), Pid::new(*client));
             state.attach(alloc, *client, "/", sid, pid, 0)?;
         }
-        Row::Join(client) => state.join(alloc, Sid::new(*client), room(), 0)?,
-        Row::Say(placed, dropped) => {
-            let done = state.cast(alloc, cast(alloc)?, 0)?;
-            let got = (done.placed, done.dropped, done.clients.len() as u64);
-            return Ok(got == (*placed, *dropped, *placed));
-        }
+        Row::Join(client) => state.join(alloc, Sid::new(*client), room(R), 0)?,
+        Row::Say(placed, dropped) => return says(state, alloc, *placed, *dropped),
         Row::Take(client, most, want) => {
             return Ok(state.take(alloc, *client, *most, 0)?.len() == *want);
         }
@@ -96,14 +93,17 @@ fn does(state: &mut State, alloc: Global, row: &Row) -> Result<bool, HubError> {
     Ok(true)
 }
 
-fn room() -> Room {
-    Room::read("r").unwrap_or(Room::own(Sid::new(0)))
+/// Whether so many get a broadcast, and so many miss it.
+fn says(state: &mut State, alloc: Global, placed: u64, dropped: u64) -> Result<bool, HubError> {
+    let done = state.cast(alloc, cast(alloc)?, 0)?;
+    let got = (done.placed, done.dropped, done.clients.len() as u64);
+    Ok(got == (placed, dropped, placed))
 }
 
 /// A broadcast whose entry has 25 bytes, and 65 more in the log.
 fn cast(alloc: Global) -> Result<Cast, AllocError> {
     let mut rooms = Vec::new(alloc);
-    rooms.push(room())?;
+    rooms.push(room(R))?;
     Ok(Cast {
         space: Text::copy_of(alloc, "/")?,
         rooms,

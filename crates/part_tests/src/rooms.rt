@@ -14,7 +14,7 @@ pub enum At {
 
 const Q: At = At::Named("q");
 
-const R: At = At::Named("r");
+pub const R: At = At::Named("r");
 
 const YES: Result<bool, RoomError> = Ok(true);
 
@@ -41,7 +41,7 @@ pub enum Row {
 }
 
 /// A room whose name is short.
-fn room(at: At) -> Room {
+pub fn room(at: At) -> Room {
     match at {
         At::Named(name) => Room::read(name).unwrap_or(Room::own(Sid::new(0))),
         At::Own(sid) => Room::own(Sid::new(sid)),
@@ -87,9 +87,7 @@ impl Part for Rooms {
     fn act(&mut self, alloc: Global, row: &Row) -> Result<bool, RoomError> {
         match row {
             Row::Enter(sid) => self.enter(alloc, Sid::new(*sid))?,
-            Row::EnterAll(sid, all) => {
-                self.enter_all(alloc, Sid::new(*sid), rooms(alloc, all)?.as_slice())?;
-            }
+            Row::EnterAll(sid, all) => enter_all(self, alloc, Sid::new(*sid), all)?,
             Row::Join(sid, at) => self.join(alloc, Sid::new(*sid), room(*at))?,
             Row::Leave(sid, at) => self.leave(Sid::new(*sid), room(*at))?,
             Row::End(sid) => self.end(Sid::new(*sid))?,
@@ -99,35 +97,66 @@ impl Part for Rooms {
     }
 }
 
+/// A socket comes into these rooms at once.
+fn enter_all(maps: &mut Rooms, alloc: Global, sid: Sid, all: &[At]) -> Result<(), RoomError> {
+    let all = rooms(alloc, all)?;
+    maps.enter_all(alloc, sid, all.as_slice())
+}
+
 /// Whether the call gives what the row says.
 fn tells(maps: &mut Rooms, alloc: Global, row: &Row) -> Result<bool, RoomError> {
-    let (given, want) = match row {
-        Row::JoinAll(all, at, want) => {
-            let all = sids(alloc, all)?;
-            (maps.join_all(alloc, all.as_slice(), room(*at))?, want)
-        }
-        Row::LeaveAll(all, at, want) => {
-            let all = sids(alloc, all)?;
-            (maps.leave_all(alloc, all.as_slice(), room(*at))?, want)
-        }
-        Row::MembersOf(at, want) => (maps.members_of(alloc, room(*at))?, want),
-        Row::Addressees(named, excepted, want) => {
-            let (named, excepted) = (rooms(alloc, named)?, rooms(alloc, excepted)?);
-            let given = maps.addressees(alloc, named.as_slice(), excepted.as_slice())?;
-            (given, want)
-        }
-        Row::RoomsOf(sid, want) => {
-            let given = maps.rooms_of(alloc, Sid::new(*sid))?;
-            return Ok(given.as_slice() == rooms(alloc, want)?.as_slice());
-        }
-        Row::IsIn(sid, at, want) => return Ok(is_in(maps, Sid::new(*sid), room(*at), *want)),
+    match row {
+        Row::RoomsOf(sid, want) => are_rooms(maps, alloc, Sid::new(*sid), want),
+        Row::IsIn(sid, at, want) => Ok(is_in(maps, Sid::new(*sid), room(*at), *want)),
         Row::Sizes(sockets, named) => {
             let (by_socket, by_room) = maps.mirrors();
-            return Ok(by_socket.len() == *sockets && by_room.len() == *named);
+            Ok(by_socket.len() == *sockets && by_room.len() == *named)
         }
-        _ => return Ok(false),
-    };
-    Ok(are(given.as_slice(), want))
+        Row::JoinAll(_, _, want)
+        | Row::LeaveAll(_, _, want)
+        | Row::MembersOf(_, want)
+        | Row::Addressees(_, _, want) => {
+            let given = given(maps, alloc, row)?;
+            Ok(are(given.as_slice(), want))
+        }
+        _ => Ok(false),
+    }
+}
+
+/// The sockets that the call gives.
+fn given(maps: &mut Rooms, alloc: Global, row: &Row) -> Result<Vec<Sid>, RoomError> {
+    match row {
+        Row::JoinAll(all, at, _) => {
+            let all = sids(alloc, all)?;
+            maps.join_all(alloc, all.as_slice(), room(*at))
+        }
+        Row::LeaveAll(all, at, _) => {
+            let all = sids(alloc, all)?;
+            maps.leave_all(alloc, all.as_slice(), room(*at))
+        }
+        Row::MembersOf(at, _) => maps.members_of(alloc, room(*at)),
+        Row::Addressees(named, excepted, _) => addressees(maps, alloc, named, excepted),
+        _ => Ok(Vec::new(alloc)),
+    }
+}
+
+/// The sockets in one of the first rooms, or all where none is named, that are in none of the others.
+fn addressees(
+    maps: &Rooms,
+    alloc: Global,
+    named: &[At],
+    excepted: &[At],
+) -> Result<Vec<Sid>, RoomError> {
+    let named = rooms(alloc, named)?;
+    let excepted = rooms(alloc, excepted)?;
+    maps.addressees(alloc, named.as_slice(), excepted.as_slice())
+}
+
+/// Whether these are the socket's rooms.
+fn are_rooms(maps: &Rooms, alloc: Global, sid: Sid, want: &[At]) -> Result<bool, RoomError> {
+    let given = maps.rooms_of(alloc, sid)?;
+    let want = rooms(alloc, want)?;
+    Ok(given.as_slice() == want.as_slice())
 }
 
 /// Whether these are the sockets.

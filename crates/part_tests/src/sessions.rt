@@ -5,6 +5,7 @@ ghost use Rattle.std.specs.Prelude.{◌≤◌};
 use crate::play::{Part, play};
 use recovery::{PacketLog, Pid, RecoveryError, Saved, SavedTable};
 use std::alloc::Global;
+use std::process::Abort;
 use std::sync::Arc;
 use terms::{Attachments, Entry, Sid, Text};
 
@@ -62,6 +63,26 @@ impl Part for PacketLog {
     }
 }
 
+/// A broadcast of six bytes.
+fn entry(alloc: Global) -> Result<Arc<Entry>, RecoveryError> {
+    let text = Text::copy_of(alloc, "2[\"x\"]")?;
+    let attachments = Attachments::new(alloc);
+    Ok(Arc::new(alloc, Entry { text, attachments })?)
+}
+
+/// The offset that one more gets, which is in no room.
+fn push_one(
+    log: &mut PacketLog,
+    alloc: Global,
+    at: u64,
+    entry: &Arc<Entry>,
+) -> Result<u64, RecoveryError> {
+    match Arc::try_clone(entry) {
+        Ok(shared) => log.push(at, 0, Vec::new(alloc), Vec::new(alloc), shared),
+        Err(_) => Ok(0),
+    }
+}
+
 fn push(
     log: &mut PacketLog,
     alloc: Global,
@@ -69,14 +90,9 @@ fn push(
     first: u64,
     last: u64,
 ) -> Result<bool, RecoveryError> {
-    let text = Text::copy_of(alloc, "2[\"x\"]")?;
-    let attachments = Attachments::new(alloc);
-    let entry = Arc::new(alloc, Entry { text, attachments })?;
+    let entry = entry(alloc)?;
     for want in first..=last {
-        let Ok(shared) = Arc::try_clone(&entry) else {
-            return Ok(false);
-        };
-        if log.push(at, 0, Vec::new(alloc), Vec::new(alloc), shared)? != want {
+        if push_one(log, alloc, at, &entry)? != want {
             return Ok(false);
         }
     }
@@ -131,6 +147,17 @@ impl Part for SavedTable {
     }
 }
 
+/// A session in no room; its private id is one more than its socket's.
+fn session(alloc: Global, id: u64, lost_at: u64) -> Saved {
+    Saved {
+        sid: Sid::new(u128::from(id)),
+        pid: Pid::new(u128::from(id) + 1),
+        space: 0,
+        rooms: Vec::new(alloc),
+        lost_at,
+    }
+}
+
 /// Saves a session. A growth that is refused leaves nothing behind.
 fn save(
     table: &mut SavedTable,
@@ -139,16 +166,7 @@ fn save(
     lost_at: u64,
 ) -> Result<bool, RecoveryError> {
     let (before, sid) = (table.len(), Sid::new(u128::from(id)));
-    let saved = table.save(
-        alloc,
-        Saved {
-            sid,
-            pid: Pid::new(u128::from(id) + 1),
-            space: 0,
-            rooms: Vec::new(alloc),
-            lost_at,
-        },
-    );
+    let saved = table.save(alloc, session(alloc, id, lost_at));
     if saved == Err(RecoveryError::Memory) && (table.len() != before || table.has_sid(sid)) {
         return Ok(false);
     }
@@ -165,6 +183,21 @@ fn log(alloc: Global, limit: usize, bytes: usize, first: u64) -> Result<PacketLo
         Err(_) => PacketLog::new(alloc, limit, bytes, first),
         log => log,
     }
+}
+
+/// Plays rows to such a log.
+fn play_log(
+    rt: &(impl Abort + AllocGlobal),
+    limit: usize,
+    bytes: usize,
+    first: u64,
+    rows: Rows,
+) -> Result<(), RecoveryError>
+    requires limit { 1 ≤ limit }
+    requires first { 1 ≤ first }
+{
+    play(rt, &mut log(rt.alloc(), limit, bytes, first)?, rows);
+    Ok(())
 }
 
 #[test]
@@ -210,15 +243,11 @@ fn logs(rt: HostRuntime) -> Result<(), RecoveryError> {
         (Row::Missed(2, &[]), Err(RecoveryError::OffsetGone)),
         (Row::Next(Some(3)), YES),
     ];
-    play(&rt, &mut log(rt.alloc(), 3, usize::MAX, 1)?, LAST_THREE);
-    play(&rt, &mut log(rt.alloc(), 3, usize::MAX, 1)?, MISSED);
-    play(
-        &rt,
-        &mut log(rt.alloc(), 1, usize::MAX, u64::MAX)?,
-        GREATEST_OFFSET,
-    );
-    play(&rt, &mut log(rt.alloc(), 9, 20, 1)?, OF_TWENTY_BYTES);
-    play(&rt, &mut log(rt.alloc(), 9, 5, 1)?, OF_FIVE_BYTES);
+    play_log(&rt, 3, usize::MAX, 1, LAST_THREE)?;
+    play_log(&rt, 3, usize::MAX, 1, MISSED)?;
+    play_log(&rt, 1, usize::MAX, u64::MAX, GREATEST_OFFSET)?;
+    play_log(&rt, 9, 20, 1, OF_TWENTY_BYTES)?;
+    play_log(&rt, 9, 5, 1, OF_FIVE_BYTES)?;
     assert!(rt; PacketLog::new(rt.alloc(), usize::MAX, 1, 1).is_err());
     Ok(())
 }

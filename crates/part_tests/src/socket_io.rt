@@ -16,10 +16,8 @@ pub enum Row {
     /// A text is read as these fields, which are written as the plain text.
     Header(&'static str, Fields, &'static str),
     Read(&'static str),
-    WithOffset(&'static str, u64, &'static str),
-    Connected(&'static str, u128, u128, &'static str),
-    Refused(&'static str, &'static str, &'static str),
-    Ended(&'static str, &'static str),
+    /// A text is written.
+    Told(Told, &'static str),
     /// The texts among the elements of an event.
     Names(&'static str, &'static [Option<&'static str>]),
     /// The texts of an event that are known once it is read, or that none are.
@@ -34,6 +32,15 @@ pub enum Row {
     Waiting(u32),
 }
 
+/// What a client is told: a payload with its offset, that a socket is connected, or refused, or has
+/// ended.
+pub enum Told {
+    WithOffset(&'static str, u64),
+    Connected(&'static str, u128, u128),
+    Refused(&'static str, &'static str),
+    Ended(&'static str),
+}
+
 type Rows = &'static [(Row, Result<bool, SioError>)];
 
 const YES: Result<bool, SioError> = Ok(true);
@@ -46,53 +53,83 @@ impl Part for Assembler {
     const MEMORY: SioError = SioError::Memory;
 
     fn act(&mut self, alloc: Global, row: &Row) -> Result<bool, SioError> {
-        Ok(match row {
-            Row::Text(text) => self.text(alloc, &mut Scratch::new(alloc), text)?.is_none(),
-            Row::Bytes(bytes, payload) => match self.binary(alloc, bytes)? {
-                Some(packet) => is_packet(packet, bytes, payload)?,
-                None => false,
-            },
-            Row::Waiting(many) => self.waiting() == *many,
-            Row::Header(text, want, plain) => {
-                let header = read_header(alloc, &mut Scratch::new(alloc), text)?;
-                has_fields(&header, want) && write_header(alloc, &header)?.as_str() == *plain
+        match row {
+            Row::Text(text) => is_part(self, alloc, text),
+            Row::Bytes(bytes, payload) => is_whole(self, alloc, bytes, payload),
+            Row::Waiting(many) => Ok(self.waiting() == *many),
+            Row::Header(text, ..) | Row::Read(text) | Row::Known(text, _) => {
+                is_read(alloc, text, row)
             }
-            Row::Read(text) => {
-                let _header = read_header(alloc, &mut Scratch::new(alloc), text)?;
-                true
-            }
-            Row::Names(payload, want) => {
-                let found = names(alloc, payload)?;
-                are_texts(&found, want)
-            }
-            Row::Known(text, want) => {
-                let header = read_header(alloc, &mut Scratch::new(alloc), text)?;
-                match (header.payload.known_names(), want) {
-                    (Some(found), Some(want)) => are_texts(found, want),
-                    (found, want) => found.is_none() && want.is_none(),
-                }
-            }
-            Row::Resume(payload, want) => match (resume_of(alloc, payload)?, want) {
-                (Some(resume), Some(want)) => (resume.pid.as_str(), resume.offset.as_str())
-                    == *want,
-                (None, None) => true,
-                _ => false,
-            },
-            _ => return is_written(alloc, row),
-        })
+            Row::Names(payload, want) => are_names(alloc, payload, want),
+            Row::Resume(payload, want) => resumes(alloc, payload, *want),
+            Row::Told(told, want) => is_told(alloc, told, want),
+        }
     }
 }
 
+/// Whether no packet is whole with this text.
+fn is_part(assembler: &mut Assembler, alloc: Global, text: &str) -> Result<bool, SioError> {
+    let packet = assembler.text(alloc, &mut Scratch::new(alloc), text)?;
+    Ok(packet.is_none())
+}
+
+/// Whether a packet of this payload is whole with this attachment.
+fn is_whole(
+    assembler: &mut Assembler,
+    alloc: Global,
+    bytes: &[u8],
+    payload: &str,
+) -> Result<bool, SioError> {
+    match assembler.binary(alloc, bytes)? {
+        Some(packet) => is_packet(packet, bytes, payload),
+        None => Ok(false),
+    }
+}
+
+/// Whether a text is read as the row says.
+fn is_read(alloc: Global, text: &str, row: &Row) -> Result<bool, SioError> {
+    let header = read_header(alloc, &mut Scratch::new(alloc), text)?;
+    is_so(alloc, &header, row)
+}
+
+/// Whether what was read is as the row says.
+fn is_so(alloc: Global, header: &Header, row: &Row) -> Result<bool, SioError> {
+    Ok(match row {
+        Row::Header(_, want, plain) => {
+            has_fields(header, want) && write_header(alloc, header)?.as_str() == *plain
+        }
+        Row::Known(_, want) => match (header.payload.known_names(), want) {
+            (Some(found), Some(want)) => are_texts(found, want),
+            (found, want) => found.is_none() && want.is_none(),
+        },
+        _ => true,
+    })
+}
+
+/// Whether these are the texts among the elements of an event.
+fn are_names(alloc: Global, payload: &str, want: &[Option<&str>]) -> Result<bool, SioError> {
+    let found = names(alloc, payload)?;
+    Ok(are_texts(&found, want))
+}
+
+/// Whether a CONNECT names this private id and this offset.
+fn resumes(alloc: Global, payload: &str, want: Option<(&str, &str)>) -> Result<bool, SioError> {
+    let resume = resume_of(alloc, payload)?;
+    let named = resume
+        .as_ref()
+        .map(|resume| (resume.pid.as_str(), resume.offset.as_str()));
+    Ok(named == want)
+}
+
 /// Whether this text is written.
-fn is_written(alloc: Global, row: &Row) -> Result<bool, SioError> {
-    let (text, want) = match row {
-        Row::WithOffset(payload, offset, want) => (with_offset(alloc, payload, *offset)?, want),
-        Row::Connected(space, sid, pid, want) => (connected_text(alloc, space, *sid, *pid)?, want),
-        Row::Refused(space, message, want) => (refused_text(alloc, space, message)?, want),
-        Row::Ended(space, want) => (disconnect_text(alloc, space)?, want),
-        _ => return Ok(false),
+fn is_told(alloc: Global, told: &Told, want: &str) -> Result<bool, SioError> {
+    let text = match told {
+        Told::WithOffset(payload, offset) => with_offset(alloc, payload, *offset)?,
+        Told::Connected(space, sid, pid) => connected_text(alloc, space, *sid, *pid)?,
+        Told::Refused(space, message) => refused_text(alloc, space, message)?,
+        Told::Ended(space) => disconnect_text(alloc, space)?,
     };
-    Ok(text.as_str() == *want)
+    Ok(text.as_str() == want)
 }
 
 fn is_text(text: &Option<Text>, want: Option<&str>) -> bool {
@@ -244,37 +281,41 @@ fn texts_read(rt: HostRuntime) {
             Err(SioError::BadJson),
         ),
     ];
-    play(&rt, &mut Assembler::new(), KINDS);
-    play(&rt, &mut Assembler::new(), FAULTS);
+    for rows in [KINDS, FAULTS] {
+        play(&rt, &mut Assembler::new(), rows);
+    }
 }
 
 #[test]
 fn texts_told(rt: HostRuntime) {
     static ROWS: Rows = &[
         (
-            Row::WithOffset(
-                "[\"say\",[1]]",
-                u64::MAX,
+            Row::Told(
+                Told::WithOffset("[\"say\",[1]]", u64::MAX),
                 "[\"say\",[1],\"ffffffffffffffff\"]",
             ),
             YES,
         ),
-        (Row::WithOffset("[", 1, ""), Err(SioError::BadShape)),
         (
-            Row::Connected(
-                "/admin",
-                2,
-                3,
+            Row::Told(Told::WithOffset("[", 1), ""),
+            Err(SioError::BadShape),
+        ),
+        (
+            Row::Told(
+                Told::Connected("/admin", 2, 3),
                 "0/admin,{\"sid\":\"00000000000000000000000000000002\",\"pid\":\"00000000000000000000000000000003\"}",
             ),
             YES,
         ),
         (
-            Row::Refused("/", "\"no\"", "4{\"message\":\"\\\"no\\\"\"}"),
+            Row::Told(
+                Told::Refused("/", "\"no\""),
+                "4{\"message\":\"\\\"no\\\"\"}",
+            ),
             YES,
         ),
-        (Row::Ended("/", "1"), YES),
-        (Row::Ended("/admin", "1/admin,"), YES),
+        (Row::Told(Told::Ended("/"), "1"), YES),
+        (Row::Told(Told::Ended("/admin"), "1/admin,"), YES),
         (Row::Names("[\"say\",1]", &[Some("say"), None]), YES),
         (
             Row::Known("2[\"say\",\"r\"]", Some(&[Some("say"), Some("r")])),
@@ -337,6 +378,7 @@ fn frames(rt: HostRuntime) {
         (Row::Bytes(&[], ""), Err(SioError::TextAwaitingBinary)),
         (Row::Waiting(0), YES),
     ];
-    play(&rt, &mut Assembler::new(), WITH_ATTACHMENT);
-    play(&rt, &mut Assembler::new(), TEXT_BEFORE_ITS_TIME);
+    for rows in [WITH_ATTACHMENT, TEXT_BEFORE_ITS_TIME] {
+        play(&rt, &mut Assembler::new(), rows);
+    }
 }
