@@ -1,5 +1,6 @@
 pub mod CastLemmas
 pub mod EndedLemmas
+pub mod FoundLemmas
 pub mod InSpaceLemmas
 pub mod WalkLemmas
 pub mod RecoverLemmas

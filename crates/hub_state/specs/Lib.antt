@@ -1,4 +1,5 @@
 pub mod EndedSockets
+pub mod Found
 pub mod Inside
 pub mod Recovering
 pub mod Changes

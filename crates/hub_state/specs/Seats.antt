@@ -3,10 +3,11 @@ use Rattle.std.specs.Prelude.{◌≡◌, ℕ, ◌==◌, nat_eq, List, Option, No
 use Rattle.std.specs.declared.cmp.Ordering.{Ordering}
 use Rattle.std.specs.Ordering.{nat_cmp, ordering_then}
 use Rattle.std.specs.Map.{lookup}
+use Rattle.std.specs.List.{flat_map}
 use Rattle.std.specs.BTreeSet.{BTreeSet}
 use Rattle.std.specs.BTreeSet as sorted
 use Rattle.journal.specs.declared.socket.Socket.{Socket}
-use Rattle.journal.specs.Casting.{is_here}
+use Rattle.journal.specs.Casting.{in_space, is_here}
 
 -- sockets, each with its session id
 abbrev pub SeatMap : Type 0
@@ -35,3 +36,7 @@ WithSeat socket old new = (s : ℕ) → seat_at new s ≡ (if socket.sid == s th
 -- without the socket of a session id, if there is one
 abbrev pub WithoutSeat : ℕ → SeatMap → SeatMap → Type 0
 WithoutSeat sid old new = (s : ℕ) → seat_at new s ≡ (if sid == s then None else seat_at old s)
+
+-- the sockets in the namespace at a place that have these session ids, in the same order
+abbrev pub seated_in : ℕ → SeatMap → List ℕ → List Socket
+seated_in space seats sids = flat_map (λ s. in_space space (seat_at seats s)) sids

@@ -9,3 +9,4 @@ pub mod MirrorLemmas
 pub mod AddressedLemmas
 pub mod PairsLemmas
 pub mod TogetherLemmas
+pub mod AskedLemmas

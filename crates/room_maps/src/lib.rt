@@ -2,9 +2,12 @@
 //! "Adapter").
 #![tactic(auto)]
 
+mod asked;
 mod error;
 mod links;
+mod remembered;
 mod rooms;
 
 pub use error::RoomError;
+pub use remembered::Remembered;
 pub use rooms::{RoomMap, Rooms, SocketMap};

@@ -3,6 +3,7 @@
 
 ghost use Rattle.std.specs.Prelude.{◌≡◌, ◌≤◌, IfOk, IfErr, IfSome, OnOk, OnErr, true, false, length};
 ghost use Rattle.std.specs.FinSet as set;
+ghost use Rattle.std.specs.Arc.{arc_value};
 ghost use Rattle.std.specs.Ordering.{nat_cmp};
 ghost use Rattle.terms.specs.Refusal.{ok_unless};
 ghost use Rattle.terms.specs.Listing.{ListsRising};
@@ -11,15 +12,19 @@ ghost use Rattle.room_maps.specs.Links.{is_linked, HasNoEmptySet, IsUnchanged, A
 ghost use Rattle.room_maps.specs.Membership.{RoomSets, room_sets_code, HasFewRooms, pair_cmp, no_sockets, is_socket, is_in, rooms_in, is_full, with_pair, without_pair, with_pairs, with_socket, with_socket_in, without_socket, enter_refusal, enter_all_refusal, join_refusal, leave_refusal, unknown_refusal, AreConsistent};
 ghost use Rattle.room_maps.specs.Membership as membership;
 ghost use Rattle.room_maps.specs.Addressed.{is_addressed};
+ghost use Rattle.room_maps.specs.Asked.{AreRight};
 ghost use Rattle.room_maps.specs.Mirror.{IsMirrored, Mirror, sets_of, pairs_of};
 
 mod together;
 
+use crate::asked::Asked;
 use crate::error::RoomError;
-use crate::links;
+use crate::remembered::Remembered;
+use crate::{asked, links};
 use std::alloc::{AllocError, Global};
 use std::collections::{BTreeMap, BTreeSet};
 use std::marker::Model;
+use std::sync::Arc;
 use terms::{Room, Sid};
 
 /// What a call on rooms answers, or why it is refused.
@@ -43,6 +48,8 @@ pub type RoomMap = BTreeMap<Room, BTreeSet<Sid>>;
 pub struct Rooms {
     by_socket: SocketMap,
     by_room: RoomMap,
+    /// What was found since a socket last came into a room or went.
+    asked: Remembered<Asked>,
 }
 
 impl Model for Rooms {
@@ -53,7 +60,7 @@ impl Model for Rooms {
     ghost view = { λ a. sets_of a.by_socket };
 
     ghost invariant = { λ a. Mirror a.by_socket a.by_room (pairs_of a.by_socket)
-        × HasFewRooms (sets_of a.by_socket) };
+        × HasFewRooms (sets_of a.by_socket) × AreRight (sets_of a.by_socket) a.asked };
 }
 
 impl Rooms {
@@ -64,6 +71,7 @@ impl Rooms {
         Rooms {
             by_socket: BTreeMap::new(alloc),
             by_room: BTreeMap::new(alloc),
+            asked: Remembered::new(alloc),
         }
     }
 
@@ -250,6 +258,29 @@ impl Rooms {
         }
     }
 
+    /// The same. What is asked for twice is remembered, until a socket comes into a room or goes:
+    /// then it compares the rooms.
+    pub fn recalled(
+        &mut self,
+        alloc: Global,
+        rooms: &[Room],
+        excepted: &[Room],
+    ) -> Result<Arc<Vec<Sid>>>
+        ensures addressed { IfOk result (λ sids. ListsRising nat_cmp
+            (is_addressed self.old rooms.now excepted.now) (arc_value sids).items) }
+        ensures memory_alone { IfErr result (λ e. e ≡ RoomError.Memory) }
+        ensures same { self.new ≡ self.old }
+    {
+        let number = asked::number_of(rooms, excepted);
+        if let Some(sids) = asked::recall(&self.asked, number, rooms, excepted) {
+            return Ok(Arc::try_clone(sids)?);
+        }
+        let found = self.addressees(alloc, rooms, excepted)?;
+        let sids = Arc::new(alloc, found).map_err(|_| RoomError::Memory)?;
+        asked::remember(alloc, &mut self.asked, number, rooms, excepted, &sids);
+        Ok(sids)
+    }
+
     /// Each socket with each room that it is in, rising by the sockets' ids and each socket's rooms
     /// by their bytes. Refused for `Memory` alone. It walks the pairs once.
     pub fn pairs(&self, alloc: Global) -> Result<Vec<(Sid, Room)>>
@@ -280,6 +311,7 @@ impl Rooms {
         ensures ok { OnOk result (self.new ≡ with_socket self.old sid) }
         ensures err { OnErr result (self.new ≡ self.old) }
     {
+        self.asked.forget();
         let own = Room::own(sid);
         add_pair(alloc, &mut self.by_socket, &mut self.by_room, sid, own)?;
         Ok(())
@@ -292,6 +324,7 @@ impl Rooms {
         ensures ok { OnOk result (self.new ≡ with_pair self.old sid room) }
         ensures err { OnErr result (self.new ≡ self.old) }
     {
+        self.asked.forget();
         add_pair(alloc, &mut self.by_socket, &mut self.by_room, sid, room)?;
         Ok(())
     }
@@ -301,6 +334,7 @@ impl Rooms {
         requires { same_room (own_room sid) room ≡ false }
         ensures { self.new ≡ without_pair self.old sid room }
     {
+        self.asked.forget();
         links::unlink(&mut self.by_socket, &sid, &room);
         links::unlink(&mut self.by_room, &room, &sid);
     }
@@ -308,6 +342,7 @@ impl Rooms {
     fn take_socket(&mut self, sid: Sid)
         ensures { self.new ≡ without_socket self.old sid }
     {
+        self.asked.forget();
         if let Some(rooms) = self.by_socket.remove(&sid) {
             links::unlink_all(&mut self.by_room, rooms, &sid);
         }

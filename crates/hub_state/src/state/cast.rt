@@ -3,15 +3,15 @@
 //! documentation, "Rooms" and "Adapter"; Socket.IO protocol 5, "Sending and receiving data" and
 //! "Acknowledgement").
 
-ghost use Rattle.hub_state.specs.Seats.{seat_at};
+ghost use Rattle.hub_state.specs.Seats.{seated_in};
 ghost use Rattle.std.specs.Prelude.{◌≡◌, ◌≢◌, not, filter, IfOk, OnOk, ◌<◌, ◌≤◌, ◌^◌, ℕ, true, false, map, nat_eq, None, Some, Ok, IfSome, IfErr, OnErr, [], length, get_or};
-ghost use Rattle.std.specs.List.{flat_map, list_any, IsDistinct, AllByRecursion};
+ghost use Rattle.std.specs.List.{list_any, IsDistinct, AllByRecursion};
 ghost use Rattle.std.specs.HashMap.{get};
 ghost use Rattle.std.specs.Arc.{arc_value};
 ghost use Rattle.room_maps.specs.Membership.{is_in};
 ghost use Rattle.room_maps.specs.Addressed.{is_addressed};
 ghost use Rattle.journal.specs.Membership.{is_in_space, place_of};
-ghost use Rattle.journal.specs.Casting.{in_space, ListsInside, is_full_in, client_of, receiver_of, pair_of, with_entries, with_logged, refusal_of, offset_of, has_no_offset, IsCastOf, IsCastError, CastDoes};
+ghost use Rattle.journal.specs.Casting.{ListsInside, is_full_in, client_of, receiver_of, pair_of, with_entries, with_logged, refusal_of, offset_of, has_no_offset, IsCastOf, IsCastError, CastDoes};
 ghost use Rattle.journal.specs.Casting as casting;
 ghost use Rattle.hub_state.specs.Words.{rooms_now, AllHear};
 ghost use Rattle.std.specs.Option.{option_map, option_map_or};
@@ -43,8 +43,7 @@ pub(crate) fn sockets_in(
     sids: &[Sid],
     space: u16,
 ) -> Result<Vec<Socket>, AllocError>
-    ensures ok { IfOk result (λ sockets. sockets.items
-        ≡ flat_map (λ s. in_space space (seat_at seats.now s)) sids.now) }
+    ensures ok { IfOk result (λ sockets. sockets.items ≡ seated_in space seats.now sids.now) }
 {
     let mut sockets = Vec::with_capacity(alloc, sids.len())?;
     for sid in sids {
@@ -54,6 +53,25 @@ pub(crate) fn sockets_in(
             sockets.push(*socket)?;
         }
     }
+    Ok(sockets)
+}
+
+/// The same, which are remembered until a socket comes or goes.
+fn recalled_in(
+    alloc: Global,
+    seats: &mut Seats,
+    sids: &[Sid],
+    space: u16,
+) -> Result<Arc<Vec<Socket>>, AllocError>
+    ensures ok { IfOk result (λ sockets. (arc_value sockets).items
+        ≡ seated_in space seats.old sids.now) }
+    ensures same { seats.new ≡ seats.old }
+{
+    if let Some(sockets) = seats.recall(sids, space) {
+        return Arc::try_clone(sockets);
+    }
+    let sockets = Arc::new(alloc, sockets_in(alloc, seats, sids, space)?)?;
+    seats.remember(alloc, sids, space, &sockets);
     Ok(sockets)
 }
 
@@ -273,6 +291,27 @@ impl State {
         sids.map_err(|_| AllocError)
     }
 
+    /// The same, which are remembered where rooms are named.
+    fn recalled_listeners(
+        &mut self,
+        alloc: Global,
+        space: u16,
+        rooms: &[Room],
+        excepted: &[Room],
+    ) -> Result<Arc<Vec<Sid>>, AllocError>
+        ensures ok { let h = self.old in IfOk result (λ sids.
+            ListsInside (is_in_space h.base h.journal space)
+            (is_addressed (rooms_now h) rooms.now excepted.now) (arc_value sids).items) }
+        ensures same { self.new ≡ self.old }
+    {
+        if rooms.is_empty() {
+            let sids = self.listeners(alloc, space, rooms, excepted)?;
+            return Ok(Arc::new(alloc, sids)?);
+        }
+        let sids = self.live.rooms.recalled(alloc, rooms, excepted);
+        sids.map_err(|_| AllocError)
+    }
+
     /// The offset of the next broadcast that is logged, or `None` where the greatest was used.
     pub fn next_offset(&self) -> Option<u64>
         ensures { result ≡ next self.now.base self.now.journal }
@@ -343,21 +382,19 @@ impl State {
         Ok((place, Some(offset)))
     }
 
-    /// The broadcast that a cast asks for, with no drops yet, and the sockets that it is for.
+    /// The broadcast that a cast asks for, with no drops yet.
     fn build(
         &self,
         alloc: Global,
         place: u16,
         offset: Option<u64>,
         cast: Cast,
-    ) -> Result<(Broadcast, Vec<Socket>), AllocError>
+    ) -> Result<Broadcast, AllocError>
         requires place { place ≡ place_of self.now.limits cast.space }
         requires offset { offset ≡ offset_of self.now cast.form }
         requires accepted { refusal_of self.now cast ≡ None }
-        ensures asked { IfOk result (λ both. IsCastOf self.now cast both.0) }
-        ensures no_drops { IfOk result (λ both. both.0.dropped ≡ []) }
-        ensures once { IfOk result (λ both. IsDistinct nat_eq (map client_of both.1.items)) }
-        ensures tells { IfOk result (λ both. TellsTo self.now both.1.items both.0) }
+        ensures asked { IfOk result (λ broadcast. IsCastOf self.now cast broadcast) }
+        ensures no_drops { IfOk result (λ broadcast. broadcast.dropped ≡ []) }
     {
         let Cast {
             space: _,
@@ -368,17 +405,31 @@ impl State {
             attachments,
         } = cast;
         let entry = self.entry(alloc, place, form, payload, attachments, offset)?;
-        let sids = self.listeners(alloc, place, &rooms, &excepted)?;
-        let sockets = sockets_in(alloc, &self.live.seats, &sids, place)?;
-        let broadcast = Broadcast {
+        Ok(Broadcast {
             space: place,
             rooms,
             excepted,
             offset,
             entry,
             dropped: Vec::new(alloc),
-        };
-        Ok((broadcast, sockets))
+        })
+    }
+
+    /// The sockets that a broadcast is for.
+    fn seated(
+        &mut self,
+        alloc: Global,
+        broadcast: &Broadcast,
+    ) -> Result<Arc<Vec<Socket>>, AllocError>
+        ensures same { self.new ≡ self.old }
+        ensures once { IfOk result (λ sockets.
+            IsDistinct nat_eq (map client_of (arc_value sockets).items)) }
+        ensures tells { IfOk result (λ sockets.
+            TellsTo self.old (arc_value sockets).items broadcast.now) }
+    {
+        let (place, rooms, excepted) = (broadcast.space, &broadcast.rooms, &broadcast.excepted);
+        let sids = self.recalled_listeners(alloc, place, rooms, excepted)?;
+        recalled_in(alloc, &mut self.live.seats, sids.as_slice(), place)
     }
 
     /// Puts an event, a question or an answer into the outboxes of the sockets of a namespace that
@@ -397,8 +448,9 @@ impl State {
         // The prover needs what holds of every hub, before and after.
         self.facts();
         let (place, offset) = self.judge(&cast)?;
-        let (broadcast, sockets) = self.build(alloc, place, offset, cast)?;
-        let done = self.send(alloc, broadcast, &sockets, now);
+        let broadcast = self.build(alloc, place, offset, cast)?;
+        let sockets = self.seated(alloc, &broadcast)?;
+        let done = self.send(alloc, broadcast, sockets.as_slice(), now);
         self.facts();
         done
     }

@@ -22,4 +22,4 @@ returns c =
     rw (← c.self.view_is)
     (listed (λ s. is_here c.args.space (seat_at c.self.inside.by_sid.entries s)) (λ v. v.items) _ c.collect.result
     (rw (c.from-place.ensures, c.new-least.ensures) at items)
-    (retold _ _ _ (c.self.invariant.mirror c.args.space) (lists-place c.args.space set.keys c.range-here.ensures.ordered)))
+    (retold _ _ _ (c.self.invariant.0.mirror c.args.space) (lists-place c.args.space set.keys c.range-here.ensures.ordered)))

@@ -12,6 +12,7 @@ invariant_of-self c =
       mirror_unchanged c.self.inside.by_socket c.add_pair.new.by_socket c.self.inside.by_room c.add_pair.new.by_room c.self.invariant.0
           h.sockets_kept h.rooms_kept (c.add_pair.ensures.filled c.self.invariant.0.no_empty_room),
       subst HasFewRooms (sym (sets_unchanged c.self.inside.by_socket c.add_pair.new.by_socket h.sockets_kept)) c.self.invariant.1,
+      λ k. rw (c.forget.ensures k) tt,
     )
 
 pub returns-in_err-add_pair-clause-err : goal.returns-in_err-add_pair-clause-err
@@ -26,6 +27,7 @@ invariant_of-self-2 c =
           h.added.0 h.added.1 known (c.add_pair.ensures.filled c.self.invariant.0.no_empty_room),
       subst HasFewRooms (sym (sets_with_pair c.self.inside.by_socket c.add_pair.new.by_socket c.args.sid c.args.room h.added.0 known))
           (few_with_pair (sets_of c.self.inside.by_socket) c.args.sid c.args.room c.self.invariant.1 (ap (λ v. is_full v c.args.sid) c.self.view_is ∙ c.requires.few)),
+      λ k. rw (c.forget.ensures k) tt,
     )
 
 pub returns-clause-ok : goal.returns-clause-ok

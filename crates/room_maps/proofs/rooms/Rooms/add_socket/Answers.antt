@@ -17,6 +17,7 @@ invariant_of-self c =
       mirror_unchanged c.self.inside.by_socket c.add_pair.new.by_socket c.self.inside.by_room c.add_pair.new.by_room c.self.invariant.0
           h.sockets_kept h.rooms_kept (c.add_pair.ensures.filled c.self.invariant.0.no_empty_room),
       subst HasFewRooms (sym (sets_unchanged c.self.inside.by_socket c.add_pair.new.by_socket h.sockets_kept)) c.self.invariant.1,
+      λ k. rw (c.forget.ensures k) tt,
     )
 
 pub returns-in_err-add_pair-clause-err : goal.returns-in_err-add_pair-clause-err
@@ -34,6 +35,7 @@ invariant_of-self-2 c =
       mirror_with_socket a n c.self.inside.by_room c.add_pair.new.by_room s c.self.invariant.0 socket_side room_side (c.add_pair.ensures.filled c.self.invariant.0.no_empty_room),
       subst HasFewRooms (sym (sets_with_socket a n s socket_side))
           (few_with_socket (sets_of a) s (known_of a) (ap (λ v. is_socket v s) c.self.view_is ∙ c.requires) c.self.invariant.1),
+      λ k. rw (c.forget.ensures k) tt,
     )
 
 pub returns-clause-ok : goal.returns-clause-ok

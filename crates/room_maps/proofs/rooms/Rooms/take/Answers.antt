@@ -14,6 +14,7 @@ invariant_of-self c =
           c.unlink-2.new.map c.unlink-2.ensures.links (c.unlink-2.ensures.filled c.self.invariant.0.no_empty_room),
       subst HasFewRooms (sym (sets_without_pair a n c.self.inside.by_room c.args.sid c.args.room c.self.invariant.0 c.unlink.ensures.links c.requires filled))
           (few_without_pair (sets_of a) c.args.sid c.args.room c.self.invariant.1),
+      λ k. rw (c.forget.ensures k) tt,
     )
 
 pub returns : goal.returns

@@ -17,6 +17,7 @@ invariant_of-self c =
           c.unlink_all.ensures.links
           (c.unlink_all.ensures.filled c.self.invariant.0.no_empty_room),
       subst HasFewRooms (sym (sets_without_socket a c.remove.new.self c.args.sid c.remove.ensures.updates.0)) (few_without_socket (sets_of a) c.args.sid c.self.invariant.1),
+      λ k. rw (c.forget.ensures k) tt,
     )
 
 pub invariant_of-self-in_default : goal.invariant_of-self-in_default
@@ -28,6 +29,7 @@ invariant_of-self-in_default c =
           (λ w q. refl)
           c.self.invariant.0.no_empty_room,
       subst HasFewRooms (sym (sets_without_socket a c.remove.new.self c.args.sid c.remove.ensures.updates.0)) (few_without_socket (sets_of a) c.args.sid c.self.invariant.1),
+      λ k. rw (c.forget.ensures k) tt,
     )
 
 pub returns-in-Some : goal.returns-in-Some
