@@ -6,4 +6,5 @@ mod PartLemmas
 mod ReceivingLemmas
 mod RosterLemmas
 mod RotaLemmas
+mod RunLemmas
 pub mod WokenLemmas

@@ -1,5 +1,6 @@
 -- Whom the answer to an event of a connection concerns.
-use Rattle.std.specs.Prelude.{◌≡◌, ◌⊎◌, ◌<◌, ℕ, true, cond, None, Some, List, [], length, slice_index_or}
+use Rattle.std.specs.Prelude.{◌≡◌, ◌⊎◌, ◌<◌, ℕ, true, cond, None, Some, List, [], length, slice_index_or, IfSome}
+use Rattle.events.specs.Answer.{Answer}
 use Rattle.events.specs.Plain.{PlainDone}
 use Rattle.loop_rules.specs.Rosters.{AreTold, IsWoken}
 use Rattle.loop_rules.specs.Rotas.{Waiting, look_of, will_look}
@@ -8,6 +9,7 @@ use Rattle.loop_rules.specs.declared.roster.Notes.{Notes}
 use Rattle.loop_rules.specs.declared.roster.Roster.{Roster}
 use Rattle.loop_rules.specs.declared.roster.Takers.{Takers}
 use Rattle.loop_rules.specs.Course.{is_socket}
+use Rattle.loop_rules.specs.Heard.{done_of}
 use Rattle.loop_rules.specs.Links.{assigned_at, link_at}
 use Rattle.loop_rules.specs.declared.heard.Concern.{Concern}
 use Rattle.loop_rules.specs.declared.heard.Concern.TheVariants as concern
@@ -31,6 +33,10 @@ lists_of done = done.clients
 abbrev pub AreAllTold : (own loops : ℕ) → PlainDone → Roster → Notes → Type 0
 AreAllTold own loops done r notes =
     (k : ℕ) → k < length (lists_of done) → AreTold own loops (slice_index_or (lists_of done) k []) r notes
+
+-- so are all for whom the event put something that was answered so
+abbrev pub AreToldOf : (own loops : ℕ) → Answer → Roster → Notes → Type 0
+AreToldOf own loops got r notes = IfSome (done_of got) (λ done. AreAllTold own loops done r notes)
 
 -- one that is told what is put for its client speaks for it
 abbrev pub heeded : (key : ℕ) → Concern → List Link → List Link

@@ -351,6 +351,13 @@ impl Roster {
     }
 }
 
+/// Whether these are the same clients, list by list.
+pub(crate) fn are_same(lists: &[Vec<u128>], others: &[Vec<u128>]) -> bool
+    ensures { IsTrue result ↔ (map (λ ids. ids.items) lists.now ≡ map (λ ids. ids.items) others.now) }
+{
+    lists == others
+}
+
 /// The most loops that a server may have.
 pub const LOOPS: u128 = 1_024;
 

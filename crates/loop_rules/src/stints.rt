@@ -1,6 +1,6 @@
 //! What a connection does in its stint, what the answer to its event leads to, and what it sends.
 
-ghost use Rattle.std.specs.Prelude.{◌≡◌, ℕ, None, Some, true, false, length, ◌<◌, IfSome};
+ghost use Rattle.std.specs.Prelude.{◌≡◌, ℕ, None, Some, true, false, length, ◌<◌, IfSome, All};
 ghost use Rattle.std.specs.Prelude.{slice_index_or};
 ghost use Rattle.loop_rules.specs.Course as courses;
 ghost use Rattle.loop_rules.specs.Link as one;
@@ -18,7 +18,7 @@ use crate::link::{Course, Do, Link, Seen, Serving};
 use crate::links::Links;
 use crate::looks::{Decision, EVENTS, Found, LookState, Pause};
 use crate::receiving::Sender;
-use crate::roster::Notes;
+use crate::roster::{Notes, are_same};
 use events::{Answered, CoreFault, Event, Outcome};
 use peers::is_noop;
 
@@ -366,6 +366,33 @@ impl Links {
         if let Some(done) = done_of(got) {
             let lists = done.clients.lists();
             self.roster.wake_lists(own, loops, lists, notes);
+        }
+    }
+
+    /// Events were answered in this order, of connections with these keys: all for whom they put
+    /// something are woken or noted, once where one event after the other had the same.
+    pub fn wake_for_run(
+        &mut self,
+        own: usize,
+        loops: usize,
+        run: &[(usize, Answered)],
+        notes: &mut Notes,
+    )
+        requires { 0 < loops }
+        ensures told { All (λ of. concerns.AreToldOf own loops of.1 self.new.roster notes.new)
+            run.now }
+        ensures links { self.new.links ≡ self.old.links }
+        ensures takers { self.new.roster.takers ≡ self.old.roster.takers }
+    {
+        let mut told: &[Vec<u128>] = &[];
+        for (_, got) in run {
+            if let Some(done) = done_of(got) {
+                let clients = done.clients.lists();
+                if !are_same(clients, told) {
+                    self.roster.wake_lists(own, loops, clients, notes);
+                    told = clients;
+                }
+            }
         }
     }
 

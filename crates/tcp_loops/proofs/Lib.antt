@@ -1,2 +1,3 @@
 pub mod ComesLemmas
 pub mod HoldingLemmas
+pub mod RoundLemmas

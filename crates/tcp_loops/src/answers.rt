@@ -1,7 +1,7 @@
 //! What a loop does with the requests of its connections, and with the answers to their events.
 
-ghost use Rattle.std.specs.Prelude.{◌≡◌, false, IfSome};
-ghost use Rattle.loop_rules.specs.Concerns.{AreAllTold};
+ghost use Rattle.std.specs.Prelude.{◌≡◌, false, fold, All, IfSome};
+ghost use Rattle.loop_rules.specs.Concerns.{AreAllTold, AreToldOf};
 ghost use Rattle.loop_rules.specs.Heard as heard;
 ghost use Rattle.loop_rules.specs.Pressures.{IsSame};
 ghost use Rattle.loop_rules.specs.Rounds as rounds;
@@ -150,13 +150,40 @@ impl<R: Wait + Clock + Copy + Drop, L: Log> Driver<'_, R, L> {
             AreAllTold self.old.number self.old.base.now.rules.now.loops done
             self.new.connections.links.roster self.new.notes) }
     {
+        self.count_ahead(got);
+        self.note(key, false, got);
+    }
+
+    /// Messages were answered, one after another, whose connections went on before that. Those for
+    /// whom they put something are told at the end: mostly all have put it for the same ones.
+    pub(crate) fn hear_run(&mut self, run: &[(usize, Answered)])
+        ensures round { self.new.round
+            ≡ fold (λ round of. rounds.after_answer of.1 0 round) self.old.round run.now }
+        ensures told { All (λ of. AreToldOf self.old.number self.old.base.now.rules.now.loops of.1
+            self.new.connections.links.roster self.new.notes) run.now }
+    {
+        let base = self.base;
+        for (key, got) in run {
+            self.count_ahead(got);
+            self.note_client(*key, false, got);
+        }
+        let links = &mut self.connections.links;
+        links.wake_for_run(self.number, base.rules.loops, run, &mut self.notes);
+    }
+
+    /// A message was answered whose connection went on before that: how many clients it reached
+    /// counts, and an error.
+    fn count_ahead(&mut self, got: &Answered)
+        ensures round { self.new.round ≡ rounds.after_answer got.now 0 self.old.round }
+        ensures number { self.new.number ≡ self.old.number }
+        ensures base { self.new.base ≡ self.old.base }
+    {
         let base = self.base;
         self.round = self.round.note_answer(got, 0);
         if let Err(error) = got {
             let reason = Reason::of_core(error.fault);
             base.shared.counts.lock(base.rt).note_refused(reason);
         }
-        self.note(key, false, got);
     }
 
     /// The answers were heard. Others may begin with what was put for them, while a connection goes

@@ -1,6 +1,7 @@
 //! A loop that serves many connections: one peer, which brings the events of all of their clients.
 
-ghost use Rattle.std.specs.Prelude.{◌≡◌, ◌+◌, ◌<◌, ◌≤◌, ◌++◌, ◌∷◌, [], false, None, IfOk, IsSome, OnSome};
+ghost use Rattle.std.specs.Prelude.{◌≡◌, ◌+◌, ◌<◌, ◌≤◌, ◌++◌, ◌∷◌, [], false, None, All, IfOk, IsSome, OnSome};
+ghost use Rattle.loop_rules.specs.Concerns.{AreToldOf};
 ghost use Rattle.loop_rules.specs.Holds as holds;
 ghost use Rattle.loop_rules.specs.Rounds as rounds;
 ghost use Rattle.tcp_loops.specs.Holding as holding;
@@ -27,6 +28,8 @@ const LARGE: usize = 16_384;
 #[derive(Drop)]
 pub struct EventLoop<'a, R, L> {
     hold: Hold<Origin, (Event, u64), Answered>,
+    /// Answers to messages whose connections went on before that, until they are heard together.
+    run: Vec<(usize, Answered)>,
     driver: Driver<'a, R, L>,
 }
 
@@ -56,9 +59,11 @@ impl<'a, R: Wait + Clock + Copy + Drop, L: Log> EventLoop<'a, R, L> {
     ) -> Result<Self, AllocError>
         ensures number { IfOk result (λ own. own.driver.number ≡ number) }
         ensures hold { IfOk result (λ own. own.hold ≡ holds.nothing_held 32) }
+        ensures run { IfOk result (λ own. own.run.items ≡ []) }
     {
         Ok(EventLoop {
             hold: Hold::new(base.alloc, EVENTS)?,
+            run: Vec::with_capacity(base.alloc, EVENTS)?,
             driver: Driver::new(base, number, ears, EVENTS)?,
         })
     }
@@ -180,18 +185,68 @@ impl<'a, R: Wait + Clock + Copy + Drop, L: Log> EventLoop<'a, R, L> {
     fn hear_all(&mut self)
         ensures asked { self.new.hold.asked ≡ self.old.hold.asked }
         ensures brought { self.new.hold.brought ≡ self.old.hold.brought }
+        ensures run { self.old.run.items ≡ [] → self.new.run.items ≡ [] }
     {
         let Some((of, got)) = self.hold.pop() else {
             return;
         };
         self.driver.heed();
-        self.driver.settle(of, &got);
+        self.hear_next(of, got);
         for _ in 0..EVENTS {
             let Some((of, got)) = self.hold.pop() else {
                 break;
             };
-            self.driver.settle(of, &got);
+            self.hear_next(of, got);
         }
+        self.hear_run();
         self.driver.tell();
+    }
+
+    /// An event was answered that is of this. It is kept where it may be, else heard behind those
+    /// that are kept.
+    fn hear_next(&mut self, of: Origin, got: Answered)
+        ensures run { holding.IsKeptOrNone of got self.old.run.items self.new.run.items }
+        ensures hold { self.new.hold ≡ self.old.hold }
+    {
+        if let Some(got) = self.keep(of, got) {
+            self.hear_run();
+            self.settle(of, &got);
+        }
+    }
+
+    /// An event was answered that is of this. No answer before it is kept: by this one a connection
+    /// may come to rest, and those wake some.
+    fn settle(&mut self, of: Origin, got: &Answered)
+        requires { self.old.run.items ≡ [] }
+        ensures run { self.new.run.items ≡ [] }
+        ensures hold { self.new.hold ≡ self.old.hold }
+    {
+        self.driver.settle(of, got);
+    }
+
+    /// Keeps an answer to be heard with others, if its connection went on before that. Gives back
+    /// what isn't kept: any other answer, and one for which there is no memory.
+    fn keep(&mut self, of: Origin, got: Answered) -> Option<Answered>
+        ensures kept { holding.IsKept of got result self.old.run.items self.new.run.items }
+        ensures hold { self.new.hold ≡ self.old.hold }
+        ensures driver { self.new.driver ≡ self.old.driver }
+    {
+        let Origin::Ahead { key } = of else {
+            return Some(got);
+        };
+        let refused = self.run.push((key, got)).err()?;
+        Some(refused.value.1)
+    }
+
+    /// Hears the answers that are kept.
+    fn hear_run(&mut self)
+        ensures told { All (λ of. AreToldOf self.old.driver.number
+            self.old.driver.base.now.rules.now.loops of.1
+            self.new.driver.connections.links.roster self.new.driver.notes) self.old.run.items }
+        ensures run { self.new.run.items ≡ [] }
+        ensures hold { self.new.hold ≡ self.old.hold }
+    {
+        self.driver.hear_run(self.run.as_slice());
+        self.run.clear();
     }
 }
