@@ -15,7 +15,8 @@ use std::fmt;
 use terms::Text;
 use thiserror::Error;
 
-/// What is told of a namespace, an origin, a path, and of a token that clients and backends have.
+/// What is told of a namespace, an origin, a path, of a token that clients and backends have, and of
+/// the demonstration app where backends decide.
 const WRONG_SPACE: &str =
     "it begins without /, has a comma or a control character, or is there already, as / is";
 

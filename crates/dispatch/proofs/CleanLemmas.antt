@@ -20,7 +20,7 @@ use Rattle.terms.specs.declared.entry.Entry.{Entry}
 use Rattle.sio_wire.specs.declared.header.Header.{Header}
 use Rattle.sio_wire.specs.Kinds.{digit_of, is_binary}
 use Rattle.sio_wire.specs.Header.{Plain, count_text, space_text, id_text}
-use Rattle.sio_wire.specs.Offset.{is_bracket, payload_with_offset}
+use Rattle.sio_wire.specs.Offset.{offset_text, is_bracket, payload_with_offset}
 use Rattle.sio_wire.specs.Disconnect.{disconnect_text}
 use Rattle.sio_wire.proofs.DigitsLemmas.{own}
 use Rattle.journal.specs.declared.error.HubError.TheVariants.{UnknownNamespace, BadPayload}
@@ -159,10 +159,8 @@ lacks-plain h text is count space id payload =
 lacks-offset : (payload : List ℕ) (offset : Option ℕ) → Lacks payload → Lacks (option_map_or (payload_with_offset payload) offset payload)
 lacks-offset payload None none = none
 lacks-offset payload (Some o) none =
-    let front = before_last is_bracket payload in
-    both (front ++ codes ",\"" ++ hex_digits 16 o) (codes "\"]")
-    (both (front ++ codes ",\"") (hex_digits 16 o) (both front (codes ",\"") (lacks-take _ payload none) refl) (lacks-hex 16 o))
-    refl
+    both (before_last is_bracket payload) (offset_text o) (lacks-take _ payload none)
+    (both (codes ",\"" ++ hex_digits 16 o) (codes "\"]") (both (codes ",\"") (hex_digits 16 o) refl (lacks-hex 16 o)) refl)
 
 lacks-id : (id : Option ℕ) → IfSome id (λ n. n < 2 ^ 64) → Lacks (id_text id)
 lacks-id None fits = refl

@@ -22,7 +22,7 @@ use events::{Cause, CoreFault, Done, Effect, Inquiry, Reply, Selection, Stopped,
 use hub_state::State;
 use journal::{Cast, Dismissed, Form, HubError, Side};
 use room_maps::RoomError;
-use sio_wire::{Header, Kind, Payload, disconnect_text, write_header};
+use sio_wire::{Front, Kind, disconnect_text, write_packet};
 use std::alloc::{AllocError, Global};
 use std::fmt::Write;
 use terms::{Attachments, Entry, Room, Sid, Text, ascii_text, id_text};
@@ -129,14 +129,13 @@ fn entry_of(
     } else {
         kinds.1
     };
-    let header = Header {
+    let front = Front {
         kind,
-        space: Text::copy_of(alloc, who.space.as_str())?,
-        id: Some(id),
-        payload: Payload::of(payload),
         count: attachments.len() as u32,
+        space: who.space.as_str(),
+        id: Some(id),
     };
-    let text = write_header(alloc, &header).or(Err(CoreFault::Memory))?;
+    let text = write_packet(alloc, &front, payload.as_str(), None).or(Err(CoreFault::Memory))?;
     Ok(Entry {
         text: Text::from_string(text),
         attachments,

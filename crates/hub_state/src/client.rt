@@ -1,7 +1,7 @@
 //! What a hub holds of a client: its sockets, and what waits for it, which is bounded by the number
 //! of the entries and by their bytes.
 
-ghost use Rattle.std.specs.Prelude.{◌≡◌, ◌-◌, ◌<◌, ◌==◌, not, List, [], ◌∷◌, ◌++◌, length, take, filter, OnOk, OnErr, IfSome, ◌+◌, ◌≤◌, drop, map, false, ◌||◌, nat_le, nat_lt, IfOk, IfNone, option_copied, slice_get, Some, vec_capacity, vec_len};
+ghost use Rattle.std.specs.Prelude.{◌≡◌, ◌≢◌, true, Ok, ◌-◌, ◌<◌, ◌==◌, not, List, [], ◌∷◌, ◌++◌, length, take, filter, OnOk, OnErr, IfSome, ◌+◌, ◌≤◌, drop, map, false, ◌||◌, nat_le, nat_lt, IfOk, IfNone, option_copied, slice_get, Some, vec_capacity, vec_len};
 ghost use Rattle.std.specs.List.{find};
 ghost use Rattle.std.specs.Option.{option_map};
 ghost use Rattle.journal.specs.Plain.{PlainClient, PlainOutbox};
@@ -108,6 +108,18 @@ fn make_place(ring: &mut HeapCircularBuffer<Arc<Entry>>, capacity: usize) -> Res
     ring.resize((2 * waits).max(FEWEST_PLACES).min(capacity))
 }
 
+/// Moves all entries of a ring to the end of a list that has room for them.
+fn move_all(ring: &mut HeapCircularBuffer<Arc<Entry>>, taken: &mut Vec<Arc<Entry>>)
+    requires { vec_len taken.old + length ring.old.items ≤ vec_capacity taken.old }
+    ensures left { ring.new.items ≡ [] }
+    ensures same { ring.new.capacity ≡ ring.old.capacity }
+    ensures taken { taken.new.items ≡ taken.old.items ++ ring.old.items }
+{
+    while let Some(oldest) = ring.pop_front() {
+        taken.push_reserved(oldest);
+    }
+}
+
 impl Outbox {
     /// An empty outbox, which takes no memory yet.
     #[tactic(auto, unfolding(journal::specs::Outboxes::total_size))]
@@ -181,6 +193,38 @@ impl Outbox {
         Ok(())
     }
 
+    /// Puts an entry at the end, if there is space for it, and tells whether there was. Its size is
+    /// named, so that one who offers it to many outboxes adds it up once.
+    pub(crate) fn offer(
+        &mut self,
+        entry: &Arc<Entry>,
+        size: Option<usize>,
+    ) -> Result<bool, AllocError>
+        requires some { IfSome size (λ s. s ≡ entry_size (arc_value entry.now)) }
+        requires none { IfNone size (usize.MAX < entry_size (arc_value entry.now)) }
+        ensures space { let o = self.old in IfOk result (λ put. put
+            ≡ not (has_no_space o.capacity o.bytes o.waiting (arc_value entry.now))) }
+        ensures put { result ≡ Ok true → self.new
+            ≡ record self.old { waiting = self.old.waiting ++ arc_value entry.now ∷ [] } }
+        ensures same { result ≢ Ok true → self.new ≡ self.old }
+    {
+        let free = self.free;
+        let Some(size) = size else {
+            return Ok(false);
+        };
+        if self.lacks(size) {
+            return Ok(false);
+        }
+        let ring = &mut self.ring;
+        make_place(ring, self.capacity)?;
+        let shared = Arc::try_clone(entry)?;
+        let Ok(()) = ring.try_push_back(shared) else {
+            unreachable!()
+        };
+        self.free = free - size;
+        Ok(true)
+    }
+
     /// Takes the newest entry away again.
     pub fn pop_newest(&mut self)
         ensures { self.new ≡ record self.old {
@@ -234,12 +278,18 @@ impl Outbox {
         ensures taken { map arc_value taken.new.items
             ≡ map arc_value taken.old.items ++ take count self.old.waiting }
     {
+        if count >= self.ring.len() {
+            move_all(&mut self.ring, taken);
+            // None waits, so all bytes are free: no entry is asked for its size.
+            self.free = self.bytes;
+            self.give_back();
+            return;
+        }
         for _index in 0..count {
             if let Some(oldest) = self.pop() {
                 taken.push_reserved(oldest);
             }
         }
-        self.give_back();
     }
 
     /// Copies of the oldest entries, as many as are named.

@@ -1,5 +1,5 @@
 -- One header a text, and the plain text spells its header.
-use Rattle.std.proofs.Common.{arith, ◌≡◌, ◌≢◌, ℕ, ◌≤◌, List, [], ◌∷◌, ◌++◌, Bool, true, false, cond, Option, Some, None, Ok, refl, sym, ◌∙◌, ap, inl, inr, subst, append_assoc}
+use Rattle.std.proofs.Common.{arith, ◌≡◌, ◌≢◌, ℕ, ◌≤◌, List, [], ◌∷◌, ◌++◌, Bool, true, false, cond, Option, Some, None, Ok, refl, sym, ◌∙◌, ap, inl, inr, subst}
 use Rattle.std.specs.Prelude.{slice_index, bytes_eq, decimal, codes, MatchBool}
 use Rattle.std.proofs.lemmas.Slice.Eq.{bytes_eq-Decides}
 use Rattle.serde_json.specs.Data.{Data}
@@ -113,10 +113,6 @@ Plain-parts h t u s p plain = record {
 pub Sio-Plain : (h : Header) (t u : List ℕ) → Sio h t → Plain h u → Sio h u
 unfolding Sio
 Sio-Plain h t u s plain = (Plain-parts h t u s.0 s.1 plain, s.1)
-
--- the parts as they are written one after another
-pub Plain-written : (d : ℕ) (count space id payload : List ℕ) → d ∷ (((count ++ space) ++ id) ++ payload) ≡ d ∷ (count ++ (space ++ (id ++ payload)))
-Plain-written d count space id payload = simp append_assoc
 
 -- a header has one plain text
 pub Plain-once : (h : Header) (t u : List ℕ) → Plain h t → Plain h u → t ≡ u

@@ -3,8 +3,10 @@ pub mod FaultsLemmas
 pub mod FramesLemmas
 pub mod HeaderLemmas
 pub mod JsonFieldsLemmas
+pub mod LanesLemmas
 pub mod OffsetLemmas
 pub mod ScanLemmas
 pub mod ShapeLemmas
 pub mod TextsLemmas
+pub mod VerbatimLemmas
 pub mod WholeLemmas

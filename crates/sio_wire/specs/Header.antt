@@ -4,6 +4,7 @@ use Rattle.std.specs.Char.{is_ascii_digit}
 use Rattle.std.specs.List.{list_any}
 use Rattle.std.specs.Str.Parse.{AllDigits, digits_value}
 use Rattle.sio_wire.specs.declared.header.Kind.{Kind}
+use Rattle.sio_wire.specs.declared.header.Front.{Front}
 use Rattle.sio_wire.specs.declared.header.Header.{Header}
 use Rattle.sio_wire.specs.Kinds.{digit_of, is_binary}
 use Rattle.sio_wire.specs.Shape.{HasPayload}
@@ -87,6 +88,11 @@ space_text space = if bytes_eq space (codes "/") then [] else space ++ codes ","
 abbrev pub id_text : Option ℕ → List ℕ
 id_text None = []
 id_text (Some id) = decimal id
+
+-- the plain text in front of a payload: the type's digit, the count, the namespace and the id
+abbrev pub front_text : Front → List ℕ
+front_text front = digit_of front.kind
+    ∷ (count_text front.kind front.count ++ (space_text front.space.now ++ id_text front.id))
 
 -- the text is the header's, with no zeros in front and no namespace where it is `/`
 unfoldable pub Plain : Header → List ℕ → Type 0

@@ -1,5 +1,5 @@
 -- The arrays that have nothing but texts in them, and the events that have such a payload.
-use Rattle.std.specs.Prelude.{◌≡◌, ℕ, List, [], ◌∷◌, Contains, Option, Some, map}
+use Rattle.std.specs.Prelude.{◌≡◌, ℕ, List, [], ◌∷◌, ◌++◌, All, Bool, not, ◌||◌, ◌==◌, nat_lt, IsTrue, Contains, Option, Some, map}
 use Rattle.json.specs.Token.{Token, begin_array, end_array, string}
 use Rattle.json.specs.Lex.{tokens}
 use Rattle.sio_wire.specs.declared.header.Kind.TheVariants.{Event}
@@ -23,6 +23,19 @@ EndsInTexts rest = (texts : List (List ℕ)) × (rest ≡ text_tokens texts)
 abbrev pub AreAlone : List (Option (List ℕ)) → List ℕ → Type 0
 AreAlone names payload =
     (texts : List (List ℕ)) × IsArrayOf texts payload × (names ≡ map Some texts)
+
+-- a byte that has a meaning of its own in a JSON string: a quote, a backslash, or a control character
+abbrev pub is_special : ℕ → Bool
+is_special byte = (byte == 34) || (byte == 92) || nat_lt byte 32
+
+-- a byte that stands for itself there
+abbrev pub is_verbatim : ℕ → Bool
+is_verbatim byte = not (is_special byte)
+
+-- the rest begins with this text, written as it is between quotes, and then this is behind it
+pub record BeginsVerbatim (rest text behind : List ℕ) : Type 0 where
+  pub whole : rest ≡ 34 ∷ text ++ 34 ∷ behind
+  pub verbatim : All (λ byte. IsTrue (is_verbatim byte)) text
 
 -- the first is a text, and a name that events may have
 abbrev pub BeginsWithName : List (Option (List ℕ)) → Type 0

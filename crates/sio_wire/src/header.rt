@@ -1,17 +1,17 @@
 //! A packet's header, read and written: its type, namespace, acknowledgement id and JSON payload,
 //! and how many attachments follow (Socket.IO protocol 5, "Packet encoding").
 
-ghost use Rattle.std.specs.Prelude.{◌≡◌, [], ◌∷◌, All, ◌≢◌, List, ℕ, ◌<◌, ◌≤◌, ◌⊎◌, ◌++◌, IfOk, IfErr, OnOk, take, drop, length, slice_index, string_bytes, OnErr, IsErrOf, ◌^◌, ◌↔◌, Some, IfSome, false};
+ghost use Rattle.std.specs.Prelude.{◌≡◌, [], ◌∷◌, All, ◌≢◌, List, ℕ, ◌<◌, ◌≤◌, ◌⊎◌, ◌++◌, IfOk, IfErr, OnOk, take, drop, length, slice_index, string_bytes, OnErr, IsErrOf, ◌^◌, ◌↔◌, Some, IfSome, IsSome, IsNone, false};
 ghost use Rattle.sio_wire.specs.Kinds.{digit_of, is_binary};
 ghost use Rattle.std.specs.Char.{is_ascii_digit};
-ghost use Rattle.std.specs.List.{take_while, list_any};
+ghost use Rattle.std.specs.List.{before_last, take_while, list_any};
 ghost use Rattle.std.specs.Str.Parse.{AllDigits, digits_value};
-ghost use Rattle.sio_wire.specs.Header.{Sio, Plain, SpellsNothing, space_text, is_control};
+ghost use Rattle.sio_wire.specs.Header.{Sio, Plain, SpellsNothing, front_text, space_text, is_control};
 ghost use Rattle.sio_wire.specs.Faults.{HasFault};
 ghost use Rattle.sio_wire.specs.Scan.{Gives, header_at, kind_at, count_at, space_at, id_at, digit_count};
 ghost use Rattle.sio_wire.specs.ConnectAnswer as answer;
 ghost use Rattle.sio_wire.specs.Disconnect as disconnect;
-ghost use Rattle.sio_wire.specs.Offset.{is_bracket, offset_digits, payload_with_offset};
+ghost use Rattle.sio_wire.specs.Offset.{is_bracket, offset_digits, offset_text, packet_header, payload_with_offset};
 
 use crate::error::SioError;
 use crate::payload::Payload;
@@ -223,27 +223,80 @@ fn after_first(text: &str) -> &str
     &text[1..]
 }
 
-/// For how many bytes before a payload there is room at once.
-const FRONT: usize = 32;
+/// What stands in front of a packet's payload.
+#[derive(Clone, Copy, Debug)]
+pub struct Front<'a> {
+    pub kind: Kind,
+    /// How many attachments follow, 0 where the type has none.
+    pub count: u32,
+    /// The namespace, which begins with `/`.
+    pub space: &'a str,
+    /// The acknowledgement id, where the sender asks for an answer or gives one.
+    pub id: Option<u64>,
+}
+
+/// For how many bytes besides a namespace and a payload there is room at once: enough for the type,
+/// the count, a comma, the id and the offset.
+const ROOM: usize = 64;
 
 /// The plain text of a header, its fields as they are: no leading zeros, no namespace `/`.
 pub fn write_header(alloc: Global, header: &Header) -> Result<String, SioError>
     ensures ok { IfOk result (λ t. Plain header.now (string_bytes t)) }
     ensures err { IfErr result (λ e. e ≡ SioError.Memory) }
 {
-    let payload = header.payload.as_str();
-    let mut text = String::with_capacity(alloc, payload.len() + FRONT)?;
-    text.push_str(header.kind.digit())?;
-    if header.kind.is_binary() {
-        let count = header.count;
+    let front = Front {
+        kind: header.kind,
+        count: header.count,
+        space: header.space.as_str(),
+        id: header.id,
+    };
+    write_packet(alloc, &front, header.payload.as_str(), None)
+}
+
+/// The plain text of the header that has this front and this payload, with the offset as the
+/// payload's last element where there is one: before its last `]` come `,"`, the offset's digits
+/// and `"`, and nothing follows the `]`. `BadShape` where there is an offset and the payload has no
+/// `]`.
+pub fn write_packet(
+    alloc: Global,
+    front: &Front<'_>,
+    payload: &str,
+    offset: Option<u64>,
+) -> Result<String, SioError>
+    ensures ok { IfOk result (λ text.
+        Plain (packet_header front.now payload.now offset) (string_bytes text)) }
+    ensures bad_shape { IsErrOf result SioError.BadShape
+        ↔ (IsSome offset × (list_any is_bracket payload.now ≡ false)) }
+    ensures err { IfErr result (λ e. (e ≡ SioError.Memory) ⊎ (e ≡ SioError.BadShape)) }
+{
+    let kept = match offset {
+        Some(_) => before_bracket(payload).ok_or(SioError::BadShape)?,
+        None => payload,
+    };
+    let room = payload.len().saturating_add(front.space.len());
+    let mut text = String::with_capacity(alloc, room.saturating_add(ROOM))?;
+    push_front(&mut text, front)?;
+    text.push_str(kept)?;
+    if let Some(offset) = offset {
+        push_offset(&mut text, offset)?;
+    }
+    Ok(text)
+}
+
+/// Appends what stands in front of a payload.
+fn push_front(text: &mut String, front: &Front<'_>) -> Result<(), AllocError>
+    ensures { OnOk result (string_bytes text.new ≡ string_bytes text.old ++ front_text front.now) }
+{
+    text.push_str(front.kind.digit())?;
+    if front.kind.is_binary() {
+        let count = front.count;
         write!(text, "{count}-")?;
     }
-    push_space(&mut text, header.space.as_str())?;
-    if let Some(id) = header.id {
+    push_space(text, front.space)?;
+    if let Some(id) = front.id {
         write!(text, "{id}")?;
     }
-    text.push_str(payload)?;
-    Ok(text)
+    Ok(())
 }
 
 /// Appends the namespace and a comma, where it is not `/`.
@@ -320,19 +373,30 @@ pub fn with_offset(alloc: Global, payload: &str, offset: u64) -> Result<String, 
         ↔ (list_any is_bracket payload.now ≡ false) }
     ensures err { IfErr result (λ e. (e ≡ SioError.Memory) ⊎ (e ≡ SioError.BadShape)) }
 {
-    let front = match payload.rfind(']') {
-        Some(last) => &payload[..last],
-        None => return Err(SioError::BadShape),
-    };
+    let kept = before_bracket(payload).ok_or(SioError::BadShape)?;
+    let mut text = String::from_str(alloc, kept)?;
+    push_offset(&mut text, offset)?;
+    Ok(text)
+}
+
+/// The payload in front of its last `]`, or `None` where it has no `]`.
+fn before_bracket(payload: &str) -> Option<&str>
+    ensures front { IfSome result (λ front. front.now ≡ before_last is_bracket payload.now) }
+    ensures none { IsNone result ↔ (list_any is_bracket payload.now ≡ false) }
+{
+    let last = payload.rfind(']')?;
+    Some(&payload[..last])
+}
+
+/// Appends the offset as an array's last element, and the array's end.
+fn push_offset(text: &mut String, offset: u64) -> Result<(), AllocError>
+    ensures { OnOk result (string_bytes text.new ≡ string_bytes text.old ++ offset_text offset) }
+{
     let mut digits = [0u8; 16];
     write_digits(u128::from(offset), &mut digits);
-    let digits = ascii_text(&digits);
-    let mut text = String::with_capacity(alloc, payload.len() + 19)?;
-    text.push_str(front)?;
     text.push_str(",\"")?;
-    text.push_str(digits)?;
-    text.push_str("\"]")?;
-    Ok(text)
+    text.push_str(ascii_text(&digits))?;
+    text.push_str("\"]")
 }
 
 /// The offset that has these digits.

@@ -7,12 +7,13 @@ mod error;
 mod header;
 mod payload;
 mod tree;
+mod verbatim;
 
 pub use assembler::{Assembler, Progress, SioPacket, frames_cut_once};
 pub use error::SioError;
 pub use header::{
-    Header, Kind, connected_text, disconnect_text, header_faults, header_texts, read_header,
-    read_offset, refused_text, with_offset, write_header,
+    Front, Header, Kind, connected_text, disconnect_text, header_faults, header_texts, read_header,
+    read_offset, refused_text, with_offset, write_header, write_packet,
 };
 pub use json::Scratch;
 pub use payload::Payload;

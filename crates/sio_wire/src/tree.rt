@@ -15,6 +15,7 @@ ghost use Rattle.sio_wire.specs.Texts.{text_tokens, AreAlone, IsArrayOf, BeginsW
 
 use crate::error::SioError;
 use crate::header::{Header, Kind};
+use crate::verbatim::verbatim_texts;
 use json::{Reader, Scratch, Token};
 use serde_json::{Category, Value};
 use std::alloc::{AllocError, Global};
@@ -59,6 +60,9 @@ fn texts_alone(
         ((texts : List (List ℕ)) → ¬ IsArrayOf texts payload.now)
         (λ names. AreAlone names.items payload.now)) }
 {
+    if let Some(found) = verbatim_texts(alloc, payload)? {
+        return Ok(Some(found));
+    }
     let mut reader = Reader::new(payload, scratch)?;
     match reader.next() {
         Some(Token::BeginArray) => texts_left(alloc, &mut reader),

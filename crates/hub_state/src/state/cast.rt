@@ -4,7 +4,7 @@
 //! "Acknowledgement").
 
 ghost use Rattle.hub_state.specs.Seats.{seated_in};
-ghost use Rattle.std.specs.Prelude.{◌≡◌, ◌≢◌, not, filter, IfOk, OnOk, ◌<◌, ◌≤◌, ◌^◌, ℕ, true, false, map, nat_eq, None, Some, Ok, IfSome, IfErr, OnErr, [], length, get_or};
+ghost use Rattle.std.specs.Prelude.{◌≡◌, ◌≢◌, not, filter, IfOk, OnOk, ◌<◌, ◌≤◌, ◌^◌, ℕ, true, false, map, nat_eq, None, Some, Ok, IfSome, IfNone, IfErr, OnErr, [], length, get_or};
 ghost use Rattle.std.specs.List.{list_any, IsDistinct, AllByRecursion};
 ghost use Rattle.std.specs.HashMap.{get};
 ghost use Rattle.std.specs.Arc.{arc_value};
@@ -14,10 +14,10 @@ ghost use Rattle.journal.specs.Membership.{is_in_space, place_of};
 ghost use Rattle.journal.specs.Casting.{ListsInside, is_full_in, client_of, receiver_of, pair_of, with_entries, with_logged, refusal_of, offset_of, has_no_offset, IsCastOf, IsCastError, CastDoes};
 ghost use Rattle.journal.specs.Casting as casting;
 ghost use Rattle.hub_state.specs.Words.{rooms_now, AllHear};
-ghost use Rattle.std.specs.Option.{option_map, option_map_or};
+ghost use Rattle.std.specs.Option.{option_map};
 ghost use Rattle.sio_wire.specs.Header.{Plain};
-ghost use Rattle.sio_wire.specs.Offset.{payload_with_offset};
 ghost use Rattle.journal.specs.Outboxes.{entries_for};
+ghost use Rattle.terms.specs.Entry.{entry_size};
 ghost use Rattle.journal.specs.Log.{logged, next};
 ghost use Rattle.journal.specs.Fields.{with_entry};
 ghost use Rattle.journal.specs.Broadcast.{IsOfAForm, broadcast_header, id_of};
@@ -31,7 +31,7 @@ use crate::state::{NONE, Result, State};
 use journal::{Broadcast, Cast, CastDone, Counts, Form, HubError, Message, Socket, What};
 use recovery::{Logged, PacketLog};
 use room_maps::Rooms;
-use sio_wire::{Header, Payload, with_offset, write_header};
+use sio_wire::{Front, write_packet};
 use std::alloc::{AllocError, Global};
 use std::sync::Arc;
 use terms::{Attachments, Entry, Room, Sid, Text};
@@ -161,12 +161,16 @@ pub(crate) fn put_messages(
     Ok(())
 }
 
-/// Puts an entry into a client's outbox, if that has space for it. Answers whether it has.
+/// Puts an entry of this size into a client's outbox, if that has space for it. Answers whether it
+/// has.
 fn put_if_it_fits(
     clients: &mut Clients,
     client: u128,
     entry: &Arc<Entry>,
+    size: Option<usize>,
 ) -> Result<bool, AllocError>
+    requires some { IfSome size (λ s. s ≡ entry_size (arc_value entry.now)) }
+    requires none { IfNone size (usize.MAX < entry_size (arc_value entry.now)) }
     ensures fits { IfOk result (λ put.
         put ≡ not (is_full_in (get nat_eq clients.old) (arc_value entry.now) client)) }
     ensures put { result ≡ Ok true
@@ -176,11 +180,7 @@ fn put_if_it_fits(
     let Some(known) = clients.get_mut(&client) else {
         return Ok(true);
     };
-    if known.outbox.has_no_space(entry) {
-        return Ok(false);
-    }
-    known.outbox.push(Arc::try_clone(entry)?)?;
-    Ok(true)
+    known.outbox.offer(entry, size)
 }
 
 /// Puts an entry into the outbox of each socket's client that has space for it, or where memory is
@@ -203,8 +203,9 @@ fn put_each(
 {
     let mut reached = Vec::with_capacity(alloc, sockets.len())?;
     let mut missing = Vec::new(alloc);
+    let size = entry.size();
     for socket in sockets {
-        match put_if_it_fits(clients, socket.client, entry) {
+        match put_if_it_fits(clients, socket.client, entry, size) {
             Ok(true) => reached.push_reserved(socket.client),
             Ok(false) if missing.push(socket.sid).is_ok() => {}
             _ => {
@@ -256,17 +257,6 @@ pub(crate) fn receivers(alloc: Global, messages: &[Message]) -> Result<Vec<u128>
     ensures ok { IfOk result (λ clients. clients.items ≡ map receiver_of messages.now) }
 {
     messages.iter().map(|message| message.client).collect(alloc)
-}
-
-/// The payload with the offset as its last element, where there is one.
-fn payload_of(alloc: Global, payload: Text, offset: Option<u64>) -> Result<Text, AllocError>
-    ensures ok { IfOk result (λ t. t ≡ option_map_or (payload_with_offset payload) offset payload) }
-{
-    let Some(offset) = offset else {
-        return Ok(payload);
-    };
-    let text = with_offset(alloc, payload.as_str(), offset).map_err(|_| AllocError)?;
-    Ok(Text::from_string(text))
 }
 
 impl State {
@@ -473,14 +463,13 @@ impl State {
         ensures fits { IfOk result (λ _. IfSome (id_of form) (λ id. id < 2 ^ 64)) }
         ensures attachments { IfOk result (λ entry. (arc_value entry).attachments ≡ attachments) }
     {
-        let header = Header {
+        let front = Front {
             kind: form.kind(attachments.len()),
-            space: Text::copy_of(alloc, self.name_at(usize::from(place)))?,
-            id: form.id(),
-            payload: Payload::of(payload_of(alloc, payload, offset)?),
             count: attachments.len() as u32,
+            space: self.name_at(usize::from(place)),
+            id: form.id(),
         };
-        let text = write_header(alloc, &header).map_err(|_| AllocError)?;
+        let text = write_packet(alloc, &front, payload.as_str(), offset).map_err(|_| AllocError)?;
         let text = Text::from_string(text);
         Ok(Arc::new(alloc, Entry { text, attachments })?)
     }

@@ -1,9 +1,14 @@
 use Rattle.std.proofs.Common.{rules, arith, ◌≡◌, ◌≤◌, ◌+◌, ◌-◌, ◌++◌, ◌∙◌, refl, vec_capacity, vec_len, append-nil}
 use Rattle.std.proofs.lemmas.List.{drop-drop}
 use Rattle.std.specs.Arc.{arc_value}
+use Rattle.journal.specs.Outboxes.{total_size}
 use Rattle.hub_state.proofs.OutboxLemmas.{first_of, taken_more}
 use Rattle.hub_state.proofs.client.Outbox.take_first.Goals.{in-Some, in_default}
 use Rattle.hub_state.proofs.client.Outbox.take_first.Goals as goal
+
+pub invariant_of-self : goal.invariant_of-self
+unfolding total_size
+invariant_of-self c = rw (c.move_all.ensures.left, c.move_all.ensures.same) (omega arith, c.self.invariant.1)
 
 pub loop-index-preserved : goal.loop-index-preserved
 loop-index-preserved c =

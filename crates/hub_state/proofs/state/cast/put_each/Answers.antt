@@ -15,7 +15,7 @@ returns-in_default-clause-err c =
       | in_default-via-in_default w ↦ search rules
     ] in
     taken-back (get nat_eq c.args.clients.now) (get nat_eq c.loop-socket.clients) (get nat_eq c.put_if_it_fits.new.clients) (get nat_eq c.take_all_back.new.clients)
-    _ c.deref.result.now c.loop-socket.invariant.put same (c.deref.ensures.value ∙ c.loop-socket.invariant.told) c.take_all_back.ensures
+    _ c.deref-in_default.result.now c.loop-socket.invariant.put same (c.deref-in_default.ensures.value ∙ c.loop-socket.invariant.told) c.take_all_back.ensures
 
 pub loop-socket-preserved : goal.loop-socket-preserved
 loop-socket-preserved c =
